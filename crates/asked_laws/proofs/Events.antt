@@ -1,6 +1,6 @@
 -- Every event tells as resolved only what was asked for, and so does every run.
 use Rattle.std.proofs.Common.{◌≡◌, ℕ, Bool, true, false, List, [], ◌∷◌, ◌++◌, length, Option, Some, None, refl, sym, ◌∙◌, subst, append-nil, map}
-use Rattle.std.specs.Prelude.{◌||◌, if◌then◌else◌}
+use Rattle.std.specs.Prelude.{◌&&◌, ◌||◌, if◌then◌else◌}
 use Rattle.stab_base.specs.declared.node.Node.{Node}
 use Rattle.stab_base.specs.declared.node.Node.TheVariants as nodes
 use Rattle.table_model.specs.declared.event.Event.{Event}
@@ -13,7 +13,7 @@ use Rattle.step_tables.specs.StoreMoves as store
 use Rattle.step_tables.specs.StoreMoves.{StoreTask, StoreMove}
 use Rattle.step_tables.specs.ClientMoves as client
 use Rattle.step_tables.specs.ClientMoves.{Client, ClientTask, ClientMove, Shape, client_step}
-use Rattle.world_tables.specs.World.{World, Packet, Hosted, Moved, WorldStep, owner, the_store, hosted_at, client_at, is_down, lines_of, lines_from, still, and_then, failing}
+use Rattle.world_tables.specs.World.{World, Packet, Hosted, Moved, WorldStep, owner_of, has_store, hosted_by, client_at, is_down, lines_of, lines_from, still, and_then, failing}
 use Rattle.world_tables.specs.World.{move_table, move_client, first_luck, other_lucks, client_tasks, client_until_idle, client_writes, client_starts, client_crashes, client_falls, client_follows_from, table_step}
 use Rattle.world_tables.specs.World.{store_falls, busy_table, write_next, store_until_idle, table_follows, store_crashes, store_starts, crash_luck, answering, answered, refused, unless_down}
 use Rattle.world_tables.specs.World.{call_there, call, listed}
@@ -93,9 +93,9 @@ module _ (a : Asked) (w : World) (fine : AreFine a w) (event : Event) where
   unread_goes c = answering_goes a w event facts.Done (failing (client_falls c w))
       (λ final. failing_goes (answered_asked event final a) (client_falls c w) (client_falls_goes c (answered_asked event final a) w (later final)))
 
-  failed_goes : StepGoes a w event (answering facts.Done (failing (store_falls owner w)))
-  failed_goes = answering_goes a w event facts.Done (failing (store_falls owner w))
-      (λ final. failing_goes (answered_asked event final a) (store_falls owner w) (store_falls_goes owner (answered_asked event final a) w (later final)))
+  failed_goes : (node : ℕ) → StepGoes a w event (answering facts.Done (failing (store_falls node w)))
+  failed_goes node = answering_goes a w event facts.Done (failing (store_falls node w))
+      (λ final. failing_goes (answered_asked event final a) (store_falls node w) (store_falls_goes node (answered_asked event final a) w (later final)))
 
   -- ---- a call of a client
 
@@ -145,8 +145,8 @@ module _ (a : Asked) (w : World) (fine : AreFine a w) (event : Event) where
       alone = answering_goes a w event _ (move_table table (store.Take from message) w) (λ final. first (answered_asked event final a) (later final))
 
       reads : (luck : Luck) → StepGoes a w event (take_read w table hosted (store.Take from message) (other_lucks lucks) luck)
-      reads messages.FailedBefore = failed_goes
-      reads messages.FailedAfter = failed_goes
+      reads messages.FailedBefore = failed_goes (owner_of w table)
+      reads messages.FailedAfter = failed_goes (owner_of w table)
       reads messages.Done =
           answering_goes a w event (table_step w table hosted (store.Take from message)).answer
           (and_then (move_table table (store.Take from message) w) (table_follows table (other_lucks lucks)))
@@ -159,7 +159,7 @@ module _ (a : Asked) (w : World) (fine : AreFine a w) (event : Event) where
       go (Some []) = reads (first_luck lucks)
 
   carried_goes : (p : Packet) (shape : Shape) (lucks : List Luck) (to : Node) → StepGoes a w event (carried w p shape lucks to)
-  carried_goes p shape lucks (nodes.Store number) = down_goes (nodes.Store number) _ (hosted_goes (table_of p.message) p.from p.message lucks (hosted_at w (table_of p.message)))
+  carried_goes p shape lucks (nodes.Store number) = down_goes (nodes.Store number) _ (hosted_goes (table_of p.message) p.from p.message lucks (hosted_by w number (table_of p.message)))
   carried_goes p shape lucks (nodes.Gate gate) = answered_goes facts.Done
   carried_goes p shape lucks (nodes.Client c) = go (client_at w c) refl
     where
@@ -173,18 +173,18 @@ module _ (a : Asked) (w : World) (fine : AreFine a w) (event : Event) where
 
   -- ---- what the Store has
 
-  pub shows_go : (row : List ℕ) (lucks : List Luck) (o : Option Hosted) → StepGoes a w event (store_shows w row lucks o)
-  shows_go row lucks None = answered_goes (facts.Refuses facts.NoTable)
-  shows_go row lucks (Some hosted) = down_goes the_store _ (read (first_luck lucks))
+  pub shows_go : (table : ℕ) (row : List ℕ) (lucks : List Luck) (o : Option Hosted) → StepGoes a w event (store_shows w table row lucks o)
+  shows_go table row lucks None = answered_goes (facts.Refuses facts.NoTable)
+  shows_go table row lucks (Some hosted) = down_goes (nodes.Store (owner_of w table)) _ (read (first_luck lucks))
     where
-      read : (luck : Luck) → StepGoes a w event (row_read w hosted row luck)
+      read : (luck : Luck) → StepGoes a w event (row_read w table hosted row luck)
       read messages.Done = answered_goes _
-      read messages.FailedBefore = failed_goes
-      read messages.FailedAfter = failed_goes
+      read messages.FailedBefore = failed_goes (owner_of w table)
+      read messages.FailedAfter = failed_goes (owner_of w table)
 
   pub chunks_go : (table : ℕ) (o : Option Hosted) → StepGoes a w event (chunk_names w table o)
   chunks_go table None = answered_goes (facts.Refuses facts.NoTable)
-  chunks_go table (Some hosted) = down_goes the_store _ (answered_goes _)
+  chunks_go table (Some hosted) = down_goes (nodes.Store (owner_of w table)) _ (answered_goes _)
 
   pub history_goes : (table : ℕ) (o : Option Hosted) → StepGoes a w event (history_lines w table o)
   history_goes table None = answered_goes (facts.Refuses facts.NoTable)
@@ -233,7 +233,7 @@ module _ (a : Asked) (w : World) (fine : AreFine a w) (event : Event) where
   crashed_goes calls lucks (nodes.Gate gate) = answered_goes facts.Done
 
   pub started_goes : (shape : Shape) (lucks : List Luck) (node : Node) → StepGoes a w event (started w shape lucks node)
-  started_goes shape lucks (nodes.Store number) = go (is_down w (nodes.Store number))
+  started_goes shape lucks (nodes.Store number) = go (has_store w number && is_down w (nodes.Store number))
     where
       go : (b : Bool) → StepGoes a w event (if b then answering facts.Done (store_starts number lucks w) else answered w facts.Done)
       go true = answering_goes a w event facts.Done (store_starts number lucks w) (λ final. store_starts_go number lucks (answered_asked event final a) w (later final))

@@ -16,9 +16,10 @@ use Rattle.step_tables.specs.StoreMoves as store
 use Rattle.step_tables.specs.StoreMoves.{StoreTask}
 use Rattle.step_tables.specs.ClientMoves as client
 use Rattle.step_tables.specs.ClientMoves.{TableDisk, ClientDisk, Client, ClientTask, ClientMove, ClientStep, Shape, no_shape, table_at, seen, client_step, phases_by}
-use Rattle.world_tables.specs.World.{World, Packet, Hosted, WorldStep, Lucks, owner, the_store, hosted_at, client_at, is_client_down, is_down, is_resolving, still, and_then}
+use Rattle.world_tables.specs.World.{World, Packet, Hosted, WorldStep, Lucks, owner_of, has_store, hosted_at, hosted_by, client_at, is_client_down, is_down, is_resolving, still, and_then, with_store}
 use Rattle.world_tables.specs.World.{move_table, moved_client, move_there, move_client, first_luck, other_lucks, client_tasks, client_follows, client_follows_from, gets_tasks, starts_by, client_starts, client_falls}
-use Rattle.world_tables.specs.World.{store_falls, busy_table, crash_luck, answering, answered, refused, unless_down, with_table, made_with, declared, open_all, new_client, first_agenda, joined, call_there, call, listed}
+use Rattle.world_tables.specs.World.{store_falls, busy_table, crash_luck, answering, answered, refused, unless_down, made_with, declared, open_all, new_client}
+use Rattle.world_tables.specs.World.{first_agenda, joined, call_there, call, listed}
 use Rattle.world_tables.specs.World.{client_pairs, resolve_all, take_read, take_at, to_hosted, to_there, carried, delivered, row_read, store_shows, chunk_names, history_lines, worked, all_worked, crashed, started, with_link, linked, step, table_follows}
 use Rattle.world_tables.specs.World.{store_starts, without_node}
 use Rattle.world_laws.proofs.Looks.{look_cases}
@@ -49,8 +50,8 @@ module _ (c t : ℕ) (w : World) (is : IsClosed c t w) where
   fallen_kept : (d : ℕ) → Kept (client_falls d w).world
   fallen_kept d = client_keeps c t w d (client.Crash messages.FailedBefore) no_shape tt is
 
-  store_fallen : Kept (store_falls owner w).world
-  store_fallen = same_keeps c t w (store_falls owner w).world is (store_falls_same owner w)
+  store_fallen : (node : ℕ) → Kept (store_falls node w).world
+  store_fallen node = same_keeps c t w (store_falls node w).world is (store_falls_same node w)
 
   moved_kept : (d : ℕ) (move : ClientMove) (shape : Shape) (lucks : List Luck) (node : Client) → IsPlainMove move
       → Kept (and_then (move_client d move shape w) (client_follows_from node.agenda d lucks)).world
@@ -104,8 +105,8 @@ module _ (c t : ℕ) (w : World) (is : IsClosed c t w) where
       first = same_keeps c t w v is (table_same table (store.Take from message) w)
 
       reads : (luck : Luck) → Kept (take_read w table hosted (store.Take from message) (other_lucks lucks) luck).world
-      reads messages.FailedBefore = store_fallen
-      reads messages.FailedAfter = store_fallen
+      reads messages.FailedBefore = store_fallen (owner_of w table)
+      reads messages.FailedAfter = store_fallen (owner_of w table)
       reads messages.Done =
           let x : World = (table_follows table (other_lucks lucks) v).world in
           same_keeps c t w x is (then_same w v x (table_same table (store.Take from message) w) (table_follows_same table (other_lucks lucks) v))
@@ -116,7 +117,7 @@ module _ (c t : ℕ) (w : World) (is : IsClosed c t w) where
       go (Some []) = reads (first_luck lucks)
 
   carried_kept : (p : Packet) (shape : Shape) (lucks : List Luck) (to : Node) → Kept (carried w p shape lucks to).world
-  carried_kept p shape lucks (nodes.Store number) = down_kept (nodes.Store number) _ (hosted_kept (table_of p.message) p.from p.message lucks (hosted_at w (table_of p.message)))
+  carried_kept p shape lucks (nodes.Store number) = down_kept (nodes.Store number) _ (hosted_kept (table_of p.message) p.from p.message lucks (hosted_by w number (table_of p.message)))
   carried_kept p shape lucks (nodes.Gate gate) = kept
   carried_kept p shape lucks (nodes.Client d) = go (client_at w d) refl
     where
@@ -128,18 +129,18 @@ module _ (c t : ℕ) (w : World) (is : IsClosed c t w) where
   delivered_kept shape lucks None = kept
   delivered_kept shape lucks (Some p) = carried_kept p shape lucks p.to
 
-  shows_kept : (row : List ℕ) (lucks : List Luck) (o : Option Hosted) → Kept (store_shows w row lucks o).world
-  shows_kept row lucks None = kept
-  shows_kept row lucks (Some hosted) = down_kept the_store _ (read (first_luck lucks))
+  shows_kept : (table : ℕ) (row : List ℕ) (lucks : List Luck) (o : Option Hosted) → Kept (store_shows w table row lucks o).world
+  shows_kept table row lucks None = kept
+  shows_kept table row lucks (Some hosted) = down_kept (nodes.Store (owner_of w table)) _ (read (first_luck lucks))
     where
-      read : (luck : Luck) → Kept (row_read w hosted row luck).world
+      read : (luck : Luck) → Kept (row_read w table hosted row luck).world
       read messages.Done = kept
-      read messages.FailedBefore = store_fallen
-      read messages.FailedAfter = store_fallen
+      read messages.FailedBefore = store_fallen (owner_of w table)
+      read messages.FailedAfter = store_fallen (owner_of w table)
 
   chunks_kept : (table : ℕ) (o : Option Hosted) → Kept (chunk_names w table o).world
   chunks_kept table None = kept
-  chunks_kept table (Some hosted) = down_kept the_store _ kept
+  chunks_kept table (Some hosted) = down_kept (nodes.Store (owner_of w table)) _ kept
 
   history_kept : (table : ℕ) (o : Option Hosted) → Kept (history_lines w table o).world
   history_kept table None = kept
@@ -172,13 +173,10 @@ module _ (c t : ℕ) (w : World) (is : IsClosed c t w) where
   declared_kept table schema luck (Some hosted) = kept
   declared_kept table schema luck None = go luck
     where
-      fallen : Kept (store_falls owner (with_table w table schema false false)).world
-      fallen = let v : World = with_table w table schema false false in let p = store_falls_same owner v in same_keeps c t w (store_falls owner v).world is (p.0, p.1)
-
       go : (x : Luck) → Kept (made_with w table schema x)
       go messages.Done = same_keeps c t w (made_with w table schema messages.Done) is (refl, refl)
-      go messages.FailedBefore = fallen
-      go messages.FailedAfter = fallen
+      go messages.FailedBefore = same_keeps c t w (made_with w table schema messages.FailedBefore) is (refl, refl)
+      go messages.FailedAfter = same_keeps c t w (made_with w table schema messages.FailedAfter) is (refl, refl)
 
   -- ---- what an event makes of the phase
 
@@ -219,7 +217,7 @@ module _ (c t : ℕ) (w : World) (is : IsClosed c t w) where
   -- a client that is down and is started has none
   started_is : (shape : Shape) (lucks : List Luck) (node : Node) → StepIs (events.Start node) (started w shape lucks node)
   started_is shape lucks (nodes.Gate gate) = kept_is w kept
-  started_is shape lucks (nodes.Store number) = go (is_down w (nodes.Store number))
+  started_is shape lucks (nodes.Store number) = go (has_store w number && is_down w (nodes.Store number))
     where
       go : (b : Bool) → StepIs (events.Start (nodes.Store number)) (if b then answering facts.Done (store_starts number lucks w) else answered w facts.Done)
       go true = kept_is (store_starts number lucks w).world (same_keeps c t w (store_starts number lucks w).world is (store_starts_same number lucks w))
@@ -394,7 +392,7 @@ module _ (c t : ℕ) (w : World) (is : IsClosed c t w) where
   -- ---- every event
 
   pub step_is : (event : Event) (lucks : Lucks) → StepIs event (step w event lucks)
-  step_is (events.Store number) lucks = kept_is w kept
+  step_is (events.Store number) lucks = kept_is (with_store number w) (same_keeps c t w (with_store number w) is (refl, refl))
   step_is (events.Table table schema) lucks = kept_is _ (declared_kept table schema (first_luck lucks.calls) (hosted_at w table))
   step_is (events.Client d gate tables) lucks = joined_is d gate tables (first_luck lucks.calls) (client_at w d) refl
   step_is (events.Write d table row x) lucks = kept_is _ (call_kept d (client.Write table row x) lucks.shape lucks.calls tt (client_at w d) refl)
@@ -413,7 +411,7 @@ module _ (c t : ℕ) (w : World) (is : IsClosed c t w) where
       kept_is _ (all_kept d table by lucks.shapes (other_lucks lucks.calls) (call w d (client.ResolveAll table by) lucks.shape lucks.calls)
       (call_kept d (client.ResolveAll table by) lucks.shape lucks.calls tt (client_at w d) refl))
   step_is (events.Deliver packet) lucks = kept_is _ (delivered_kept lucks.shape lucks.calls (slice_get w.packets packet))
-  step_is (events.StoreShow table row) lucks = kept_is _ (shows_kept row lucks.calls (hosted_at w table))
+  step_is (events.StoreShow table row) lucks = kept_is _ (shows_kept table row lucks.calls (hosted_at w table))
   step_is (events.History table) lucks = kept_is _ (history_kept table (hosted_at w table))
   step_is (events.Chunks table) lucks = kept_is _ (chunks_kept table (hosted_at w table))
   step_is (events.Hold node) lucks = kept_is _ (down_kept node _ (same_keeps c t w (record w { holds = node ∷ w.holds }) is (refl, refl)))

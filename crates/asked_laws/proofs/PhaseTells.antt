@@ -14,9 +14,9 @@ use Rattle.step_tables.specs.StoreMoves as store
 use Rattle.step_tables.specs.StoreMoves.{StoreTask}
 use Rattle.step_tables.specs.ClientMoves as client
 use Rattle.step_tables.specs.ClientMoves.{TableDisk, ClientDisk, Client, ClientTask, ClientMove, ClientStep, Shape, no_shape, table_at, seen, client_step, phases_by}
-use Rattle.world_tables.specs.World.{World, Packet, Hosted, WorldStep, Lucks, start, owner, the_store, hosted_at, client_at, is_client_down, is_down, is_resolving, and_then}
+use Rattle.world_tables.specs.World.{World, Packet, Hosted, WorldStep, Lucks, start, owner_of, has_store, hosted_at, hosted_by, client_at, is_client_down, is_down, is_resolving, and_then, with_store}
 use Rattle.world_tables.specs.World.{move_table, move_there, move_client, first_luck, other_lucks, client_tasks, client_follows, client_follows_from, starts_by, client_starts, client_falls}
-use Rattle.world_tables.specs.World.{store_falls, busy_table, crash_luck, answering, answered, refused, unless_down, with_table, made_with, declared, open_all, new_client, first_agenda, joined, call_there, call, listed}
+use Rattle.world_tables.specs.World.{busy_table, crash_luck, answering, answered, refused, unless_down, made_with, declared, open_all, new_client, first_agenda, joined, call_there, call, listed}
 use Rattle.world_tables.specs.World.{client_pairs, resolve_all, take_read, take_at, to_hosted, to_there, carried, delivered, row_read, store_shows, chunk_names, history_lines, worked, all_worked, crashed, started, with_link, linked, step, table_follows}
 use Rattle.world_tables.specs.World.{store_starts, without_node}
 use Rattle.world_tables.specs.Turns.{Happening, world_from}
@@ -196,8 +196,8 @@ module _ (c : ℕ) (w : World) where
       v = (move_table table (store.Take from message) w).world
 
       reads_same : (luck : Luck) → SameSide w (take_read w table hosted (store.Take from message) (other_lucks lucks) luck).world
-      reads_same messages.FailedBefore = store_falls_same owner w
-      reads_same messages.FailedAfter = store_falls_same owner w
+      reads_same messages.FailedBefore = store_falls_same (owner_of w table) w
+      reads_same messages.FailedAfter = store_falls_same (owner_of w table) w
       reads_same messages.Done =
           then_same w v (table_follows table (other_lucks lucks) v).world (table_same table (store.Take from message) w) (table_follows_same table (other_lucks lucks) v)
 
@@ -209,7 +209,8 @@ module _ (c : ℕ) (w : World) where
   carried_tells : (p : Packet) (shape : Shape) (lucks : List Luck) (to : Node)
       → Tells (carried w p shape lucks to).world (has_fault (carried w p shape lucks to).answer && is_client c to)
   carried_tells p shape lucks (nodes.Store number) =
-      side_tells (carried w p shape lucks (nodes.Store number)).world _ (down_same (nodes.Store number) _ (hosted_same (table_of p.message) p.from p.message lucks (hosted_at w (table_of p.message))))
+      side_tells (carried w p shape lucks (nodes.Store number)).world _
+      (down_same (nodes.Store number) _ (hosted_same (table_of p.message) p.from p.message lucks (hosted_by w number (table_of p.message))))
   carried_tells p shape lucks (nodes.Gate gate) = side_tells w false (refl, refl)
   carried_tells p shape lucks (nodes.Client d) = go (client_at w d) refl
     where
@@ -224,18 +225,18 @@ module _ (c : ℕ) (w : World) where
 
   -- ---- what is no client's
 
-  shows_same : (row : List ℕ) (lucks : List Luck) (o : Option Hosted) → SameSide w (store_shows w row lucks o).world
-  shows_same row lucks None = (refl, refl)
-  shows_same row lucks (Some hosted) = down_same the_store _ (read (first_luck lucks))
+  shows_same : (table : ℕ) (row : List ℕ) (lucks : List Luck) (o : Option Hosted) → SameSide w (store_shows w table row lucks o).world
+  shows_same table row lucks None = (refl, refl)
+  shows_same table row lucks (Some hosted) = down_same (nodes.Store (owner_of w table)) _ (read (first_luck lucks))
     where
-      read : (luck : Luck) → SameSide w (row_read w hosted row luck).world
+      read : (luck : Luck) → SameSide w (row_read w table hosted row luck).world
       read messages.Done = (refl, refl)
-      read messages.FailedBefore = store_falls_same owner w
-      read messages.FailedAfter = store_falls_same owner w
+      read messages.FailedBefore = store_falls_same (owner_of w table) w
+      read messages.FailedAfter = store_falls_same (owner_of w table) w
 
   chunks_same : (table : ℕ) (o : Option Hosted) → SameSide w (chunk_names w table o).world
   chunks_same table None = (refl, refl)
-  chunks_same table (Some hosted) = down_same the_store _ (refl, refl)
+  chunks_same table (Some hosted) = down_same (nodes.Store (owner_of w table)) _ (refl, refl)
 
   history_same : (table : ℕ) (o : Option Hosted) → SameSide w (history_lines w table o).world
   history_same table None = (refl, refl)
@@ -253,13 +254,10 @@ module _ (c : ℕ) (w : World) where
   declared_same table schema luck (Some hosted) = (refl, refl)
   declared_same table schema luck None = go luck
     where
-      fallen : SameSide w (store_falls owner (with_table w table schema false false)).world
-      fallen = let p = store_falls_same owner (with_table w table schema false false) in (p.0, p.1)
-
       go : (x : Luck) → SameSide w (made_with w table schema x)
       go messages.Done = (refl, refl)
-      go messages.FailedBefore = fallen
-      go messages.FailedAfter = fallen
+      go messages.FailedBefore = (refl, refl)
+      go messages.FailedAfter = (refl, refl)
 
   -- ---- what is done to a node
 
@@ -314,7 +312,7 @@ module _ (c : ℕ) (w : World) where
   -- one that is started was down, or goes on
   started_tells : (shape : Shape) (lucks : List Luck) (node : Node) → Tells (started w shape lucks node).world false
   started_tells shape lucks (nodes.Gate gate) = same_tells w refl
-  started_tells shape lucks (nodes.Store number) = go (is_down w (nodes.Store number))
+  started_tells shape lucks (nodes.Store number) = go (has_store w number && is_down w (nodes.Store number))
     where
       go : (b : Bool) → Tells (if b then answering facts.Done (store_starts number lucks w) else answered w facts.Done).world false
       go true = same_tells (store_starts number lucks w).world (side_away (store_starts number lucks w).world (store_starts_same number lucks w))
@@ -356,7 +354,7 @@ module _ (c : ℕ) (w : World) where
     delivers packet = sym (slice_get-map (λ (p : Packet). p.to) w.packets packet) ∙ ap (λ (ns : List Node). slice_get ns packet) (sym sent_is)
 
     step_tells : (event : Event) (lucks : Lucks) → Tells (step w event lucks).world (goes_down c sent event (step w event lucks).answer)
-    step_tells (events.Store number) lucks = same_tells w refl
+    step_tells (events.Store number) lucks = same_tells (with_store number w) refl
     step_tells (events.Table table schema) lucks =
         let v : World = declared w table schema (first_luck lucks.calls) (hosted_at w table) in same_tells v (side_away v (declared_same table schema (first_luck lucks.calls) (hosted_at w table)))
     step_tells (events.Client d gate tables) lucks = joined_tells d tables (first_luck lucks.calls) (client_at w d) refl
@@ -378,7 +376,7 @@ module _ (c : ℕ) (w : World) where
     step_tells (events.Deliver packet) lucks =
         let s : WorldStep = delivered w lucks.shape lucks.calls (slice_get w.packets packet) in
         subst (λ (to : Option Node). Tells s.world (has_fault s.answer && goes_to c to)) (delivers packet) (delivered_tells lucks.shape lucks.calls (slice_get w.packets packet))
-    step_tells (events.StoreShow table row) lucks = side_tells (store_shows w row lucks.calls (hosted_at w table)).world _ (shows_same row lucks.calls (hosted_at w table))
+    step_tells (events.StoreShow table row) lucks = side_tells (store_shows w table row lucks.calls (hosted_at w table)).world _ (shows_same table row lucks.calls (hosted_at w table))
     step_tells (events.History table) lucks = side_tells (history_lines w table (hosted_at w table)).world _ (history_same table (hosted_at w table))
     step_tells (events.Chunks table) lucks = side_tells (chunk_names w table (hosted_at w table)).world _ (chunks_same table (hosted_at w table))
     step_tells (events.Hold node) lucks =

@@ -18,7 +18,7 @@ use Rattle.step_tables.specs.StoreMoves as store
 use Rattle.step_tables.specs.StoreMoves.{StoreMove}
 use Rattle.step_tables.specs.ClientMoves as client
 use Rattle.step_tables.specs.ClientMoves.{TableDisk, ClientDisk, Client, ClientTask, ClientMove, ClientStep, Shape, no_shape, table_at, seen, client_step, phases_by}
-use Rattle.world_tables.specs.World.{World, Hosted, Moved, owner, hosted_at, client_at, is_client_down, is_resolving, has_node, tables_of, still, and_then, and_unless}
+use Rattle.world_tables.specs.World.{World, Hosted, Moved, owner_of, hosted_at, client_at, is_client_down, is_resolving, has_node, tables_of, still, and_then, and_unless}
 use Rattle.world_tables.specs.World.{after_table, move_hosted, move_table, moved_client, move_there, move_client, first_luck, other_lucks, client_works, client_tasks, client_until_idle, client_follows, client_follows_from}
 use Rattle.world_tables.specs.World.{client_writes, gets_tasks, table_falls, tables_fall, without_down, store_falls, or_falls, is_at_work, busy_table, write_next, store_works, tasks_of, store_until_idle}
 use Rattle.world_tables.specs.World.{store_follows, table_follows, declared_late, start_hosted, table_starts, tables_start, store_starts, crash_luck, table_crashes, store_crashes}
@@ -86,8 +86,8 @@ follows_same node lucks w = go (has_node w.holds (nodes.Store node))
 pub table_follows_same : (table : ℕ) (lucks : List Luck) (w : World) → SameSide w (table_follows table lucks w).world
 table_follows_same table lucks w = go (is_at_work w table)
   where
-    go : (busy : Bool) → SameSide w (if busy then store_follows owner lucks w else still w).world
-    go true = follows_same owner lucks w
+    go : (busy : Bool) → SameSide w (if busy then store_follows (owner_of w table) lucks w else still w).world
+    go true = follows_same (owner_of w table) lucks w
     go false = (refl, refl)
 
 start_same : (table : ℕ) (w : World) → SameSide w (start_hosted w table (hosted_at w table)).world
@@ -97,7 +97,7 @@ start_same table w = go (hosted_at w table)
     go None = (refl, refl)
     go (Some hosted) = made hosted.made
       where
-        made : (b : Bool) → SameSide w (if b then move_table table store.Start w else after_table w table (record hosted { made = true }) (declared_late table)).world
+        made : (b : Bool) → SameSide w (if b then move_table table store.Start w else after_table w table (record hosted { made = true }) (declared_late (owner_of w table) table)).world
         made true = table_same table store.Start w
         made false = (refl, refl)
 
@@ -119,15 +119,21 @@ store_starts_same node lucks w = go m.failed
     tables = tables_of w node
 
     m : Moved
-    m = tables_start tables lucks w
+    m = and_then (tables_fall tables w) (tables_start tables lucks)
+
+    fallen : World
+    fallen = (tables_fall tables w).world
+
+    first : SameSide w m.world
+    first = then_same w fallen m.world (falls_same tables w) (starts_same tables lucks fallen)
 
     go : (failed : Bool)
-        → SameSide w (if failed then and_then m (tables_fall tables) else and_then m (λ x. store_follows node (drop (length tables) lucks) (without_down (nodes.Store node) x))).world
-    go true = then_same w m.world (tables_fall tables m.world).world (starts_same tables lucks w) (falls_same tables m.world)
+        → SameSide w (if failed then and_then m (store_falls node) else and_then m (λ x. store_follows node (drop (length tables) lucks) (without_down (nodes.Store node) x))).world
+    go true = then_same w m.world (store_falls node m.world).world first (store_falls_same node m.world)
     go false =
         let up : World = without_down (nodes.Store node) m.world in
         let p = follows_same node (drop (length tables) lucks) up in
-        then_same w m.world (store_follows node (drop (length tables) lucks) up).world (starts_same tables lucks w) (p.0, p.1)
+        then_same w m.world (store_follows node (drop (length tables) lucks) up).world first (p.0, p.1)
 
 pub store_crashes_same : (node calls : ℕ) (lucks : List Luck) (w : World) → SameSide w (store_crashes node calls lucks w).world
 store_crashes_same node calls lucks w =

@@ -1,6 +1,6 @@
 -- What a client resolves was asked for by the event, and so in every run.
-use Rattle.std.proofs.Common.{◌≡◌, ⊎_elim, ℕ, Bool, true, false, List, [], ◌∷◌, ◌++◌, Option, Some, None, refl, sym, ◌∙◌, ap, subst, arith, append-nil}
-use Rattle.std.specs.Prelude.{not, slice_get, if◌then◌else◌}
+use Rattle.std.proofs.Common.{◌≡◌, ⊎_elim, ℕ, Bool, true, false, List, [], ◌∷◌, ◌++◌, Option, Some, None, refl, sym, ◌∙◌, subst, arith, append-nil}
+use Rattle.std.specs.Prelude.{slice_get, if◌then◌else◌}
 use Rattle.std.proofs.lemmas.Bool.Decides.{nat_tests}
 use Rattle.std.specs.Ordering.{nat_cmp}
 use Rattle.std.specs.BTreeMap.{insert_entry}
@@ -9,28 +9,25 @@ use Rattle.table_model.specs.declared.event.Event.{Event}
 use Rattle.table_model.specs.declared.event.Event.TheVariants as events
 use Rattle.conflicts.specs.declared.pair.Choice.{Choice}
 use Rattle.conflicts.specs.declared.stored.Stored as resolvers
-use Rattle.step_tables.specs.Facts.{Answer, Fact, Refusal, Line, AnswerLine, EntryLine, PairLine}
+use Rattle.step_tables.specs.Facts.{Answer, Refusal, Line, AnswerLine, EntryLine, PairLine}
 use Rattle.step_tables.specs.Facts as facts
 use Rattle.step_tables.specs.Messages.{Message, Luck, table_of}
 use Rattle.step_tables.specs.Messages as messages
 use Rattle.step_tables.specs.ClientMoves as client
 use Rattle.step_tables.specs.ClientMoves.{Client, ClientTask, ClientMove, Shape, client_step}
 use Rattle.step_tables.proofs.Lists.{same_row-refl}
-use Rattle.world_tables.specs.World.{World, Packet, Hosted, Outbox, Moved, WorldStep, Lucks, start, owner, the_store, hosted_at, client_at, is_down, tasks_in, lines_of, and_then}
+use Rattle.world_tables.specs.World.{World, Hosted, Moved, WorldStep, Lucks, start, hosted_at, client_at, tasks_in, lines_of, and_then, with_store}
 use Rattle.world_tables.specs.World.{move_client, first_luck, other_lucks, client_follows_from}
-use Rattle.world_tables.specs.World.{store_falls, answering, silent}
+use Rattle.world_tables.specs.World.{answering, silent}
 use Rattle.world_tables.specs.World.{agenda_of, with_table, made_with, declared, open_all, new_client, first_agenda, joined, call, client_pairs, resolve_each, resolve_all}
 use Rattle.world_tables.specs.World.{step}
 use Rattle.world_tables.specs.Turns.{Happening, turns_from, turns}
 use Rattle.world_laws.proofs.Looks.{look_cases}
 use Rattle.world_laws.proofs.Calls.{call_is}
-use Rattle.world_laws.proofs.StoreWorks.{AreSilent, store_falls_silent}
 use Rattle.asked_laws.specs.Asked.{Asked, nothing_asked, lets_resolve, answered_asked, lines_asked, AskedFrom, AreAsked}
-use Rattle.asked_laws.proofs.Tellings.{packets_in, facts_asked, outs_asked}
 use Rattle.asked_laws.proofs.Fine.{HasOnePlan, IsFine}
 use Rattle.asked_laws.proofs.Stores.{ArePlainWrites}
 use Rattle.asked_laws.proofs.Worlds.{AreFine, ClientsFine, put_table, Goes}
-use Rattle.asked_laws.proofs.Worlds.{store_falls_goes}
 use Rattle.asked_laws.proofs.Each.{Resolves, IsResolving, each_stays, IsIdleNumber, all_idle}
 use Rattle.asked_laws.proofs.Events.{or_too, StepGoes, told_goes, later, answered_goes, down_goes, unread_goes, called_goes, call_goes, delivered_goes, shows_go, chunks_go, history_goes, link_goes, held_goes, worked_goes, all_worked_goes, crashed_goes, started_goes, conflicts_go}
 
@@ -103,14 +100,6 @@ all_goes a w fine c table by shape shapes lucks more =
 
 -- ---- declarations
 
-silent_asked : (a : Asked) (outs : List Outbox) → AreSilent outs → outs_asked outs a ≡ a
-silent_asked a [] f = refl
-silent_asked a (out ∷ more) f = ap (λ (b : Asked). outs_asked more b) (ap (λ (some : List Fact). facts_asked some a) f.0) ∙ silent_asked a more f.2
-
-silent_packets : (outs : List Outbox) → AreSilent outs → packets_in outs ≡ []
-silent_packets [] f = refl
-silent_packets (out ∷ more) f = ap (λ (ps : List Packet). ps ++ packets_in more) f.1 ∙ silent_packets more f.2
-
 module _ (a : Asked) (w : World) (fine : AreFine a w) where
   -- a world that a declaration makes without a line
   unsaid : (event : Event) (v : World) → AreFine a v → v.packets ≡ w.packets → StepGoes a w event (silent v)
@@ -120,26 +109,17 @@ module _ (a : Asked) (w : World) (fine : AreFine a w) where
   declared_goes table schema luck (Some hosted) = unsaid (events.Table table schema) w fine refl
   declared_goes table schema luck None = go luck
     where
-      with_new : (made up : Bool) → AreFine a (with_table w table schema made up)
-      with_new made up = (put_table w.tables table _ fine.0 (none up), fine.1)
+      with_new : (made : Bool) → AreFine a (with_table w table schema made)
+      with_new made = (put_table w.tables table _ fine.0 (none made), fine.1)
         where
           none : (b : Bool) → ArePlainWrites (tasks_in (agenda_of b))
           none true = tt
           none false = tt
 
-      fallen : StepGoes a w (events.Table table schema) (silent (store_falls owner (with_table w table schema false false)).world)
-      fallen =
-          let v : World = with_table w table schema false false in
-          let quiet : AreSilent (store_falls owner v).outs = store_falls_silent owner v in
-          let g : Goes a w.packets (store_falls owner v) = store_falls_goes owner a v (with_new false false) in
-          unsaid (events.Table table schema) (store_falls owner v).world
-          (subst (λ (b : Asked). AreFine b (store_falls owner v).world) (silent_asked a (store_falls owner v).outs quiet) g.fine)
-          (g.packets ∙ (ap (λ (ps : List Packet). w.packets ++ ps) (silent_packets (store_falls owner v).outs quiet) ∙ append-nil w.packets))
-
       go : (x : Luck) → StepGoes a w (events.Table table schema) (silent (made_with w table schema x))
-      go messages.Done = unsaid (events.Table table schema) (made_with w table schema messages.Done) (with_new true (not (is_down w the_store))) refl
-      go messages.FailedBefore = fallen
-      go messages.FailedAfter = fallen
+      go messages.Done = unsaid (events.Table table schema) (made_with w table schema messages.Done) (with_new true) refl
+      go messages.FailedBefore = unsaid (events.Table table schema) (made_with w table schema messages.FailedBefore) (with_new false) refl
+      go messages.FailedAfter = unsaid (events.Table table schema) (made_with w table schema messages.FailedAfter) (with_new false) refl
 
   joined_goes : (c : ℕ) (gate : Option ℕ) (tables : List ℕ) (luck : Luck) (o : Option Client) → StepGoes a w (events.Client c gate tables) (silent (joined w c tables luck o))
   joined_goes c gate tables luck (Some node) = unsaid (events.Client c gate tables) w fine refl
@@ -160,7 +140,7 @@ module _ (a : Asked) (w : World) (fine : AreFine a w) where
   -- ---- every event
 
   pub step_goes : (event : Event) (lucks : Lucks) → StepGoes a w event (step w event lucks)
-  step_goes (events.Store number) lucks = unsaid (events.Store number) w fine refl
+  step_goes (events.Store number) lucks = unsaid (events.Store number) (with_store number w) fine refl
   step_goes (events.Table table schema) lucks = declared_goes table schema (first_luck lucks.calls) (hosted_at w table)
   step_goes (events.Client c gate tables) lucks = joined_goes c gate tables (first_luck lucks.calls) (client_at w c)
   step_goes (events.Write c table row x) lucks = call_goes a w fine (events.Write c table row x) c (client.Write table row x) lucks.shape lucks.calls (λ node final lets. tt) (client_at w c) refl
@@ -176,7 +156,7 @@ module _ (a : Asked) (w : World) (fine : AreFine a w) where
   step_goes (events.Resolve c table row seen choice) lucks = resolve_goes a w fine c table row seen choice lucks.shape lucks.calls
   step_goes (events.ResolveAll c table by) lucks = all_goes a w fine c table by lucks.shape lucks.shapes lucks.calls (other_lucks lucks.calls)
   step_goes (events.Deliver packet) lucks = delivered_goes a w fine (events.Deliver packet) lucks.shape lucks.calls (slice_get w.packets packet)
-  step_goes (events.StoreShow table row) lucks = shows_go a w fine (events.StoreShow table row) row lucks.calls (hosted_at w table)
+  step_goes (events.StoreShow table row) lucks = shows_go a w fine (events.StoreShow table row) table row lucks.calls (hosted_at w table)
   step_goes (events.History table) lucks = history_goes a w fine (events.History table) table (hosted_at w table)
   step_goes (events.Chunks table) lucks = chunks_go a w fine (events.Chunks table) table (hosted_at w table)
   step_goes (events.Hold node) lucks = down_goes a w fine (events.Hold node) node _ (held_goes a w fine (events.Hold node) _)

@@ -11,7 +11,8 @@ use Rattle.step_tables.specs.StoreMoves as store
 use Rattle.step_tables.specs.StoreMoves.{StoreTask, TableStore, StoreMove, StoreStep}
 use Rattle.step_tables.specs.ClientMoves as client
 use Rattle.step_tables.specs.ClientMoves.{Client, ClientTask, ClientMove, ClientStep, Shape, no_shape, client_step}
-use Rattle.world_tables.specs.World.{World, Packet, Outbox, the_store, packets_from, Hosted, Moved, owner, schema_at, scheme_in, chunk_in, hosted_at, client_at, has_node, tables_of, tasks_in, still, and_then, and_unless, failing}
+use Rattle.world_tables.specs.World.{World, Packet, Outbox, owner_of, packets_from, Hosted, Moved, schema_at, scheme_in, chunk_in, hosted_at, client_at}
+use Rattle.world_tables.specs.World.{has_node, tables_of, tasks_in, still, and_then, and_unless, failing}
 use Rattle.world_tables.specs.World.{history_on, after_table, table_step, move_hosted, move_table, move_there, move_client, first_luck, other_lucks, client_works, client_tasks, client_until_idle, client_follows, client_follows_from}
 use Rattle.world_tables.specs.World.{client_writes, client_starts, starts_by, client_falls, gets_tasks, table_falls, tables_fall, with_down, without_down, store_falls, or_falls, is_at_work, busy_table, write_next}
 use Rattle.world_tables.specs.World.{store_works, tasks_of, store_until_idle, store_follows, table_follows, declared_late, start_hosted, table_starts, tables_start, store_starts, crash_luck, table_crashes, store_crashes}
@@ -85,7 +86,7 @@ after_goes a w table hosted s fine plain =
       asked = (told.0, tt);
       fine = (put_table w.tables table new fine.0 plain.1, subst (λ (b : Asked). ClientsFine b w.clients) (sym told.1) fine.1);
       unsent = (plain_unsent s.facts plain.0, tt);
-      packets = ap (λ (ps : List Packet). w.packets ++ ps) (sym (append-nil (packets_from the_store s.sends)));
+      packets = ap (λ (ps : List Packet). w.packets ++ ps) (sym (append-nil (packets_from (owner_of w) (nodes.Store (owner_of w table)) s.sends)));
     }
 
 pub table_goes : (a : Asked) (w : World) (table : ℕ) (move : StoreMove) → AreFine a w → Goes a w.packets (move_table table move w)
@@ -95,7 +96,7 @@ table_goes a w table move fine = go (hosted_at w table) refl
     go None at = still_goes a w fine
     go (Some hosted) at =
         after_goes a w table hosted (table_step w table hosted move) fine
-        (store_plain owner (scheme_in (schema_at w table)) (chunk_in (schema_at w table)) table hosted.store move (fine.0 table hosted at))
+        (store_plain (owner_of w table) (scheme_in (schema_at w table)) (chunk_in (schema_at w table)) table hosted.store move (fine.0 table hosted at))
 
 put_client : (a : Asked) (clients : List (ℕ × Client)) (c : ℕ) (s : ClientStep) → ClientsFine a clients → KeepsFine a c s → ClientsFine (facts_asked s.facts a) (insert_entry nat_cmp clients c s.client)
 put_client a clients c s fine k q found at = ⊎_elim
@@ -115,7 +116,7 @@ client_goes a w c move shape fine was = go (client_at w c) refl
           asked = (k.asked, tt);
           fine = (fine.0, put_client a w.clients c (client_step c shape node move) fine.1 k);
           unsent = (k.unsent, tt);
-          packets = ap (λ (ps : List Packet). w.packets ++ ps) (sym (append-nil (packets_from (nodes.Client c) (client_step c shape node move).sends)));
+          packets = ap (λ (ps : List Packet). w.packets ++ ps) (sym (append-nil (packets_from (owner_of w) (nodes.Client c) (client_step c shape node move).sends)));
         }
 
 -- ---- a client's work
@@ -199,8 +200,8 @@ follows_go node lucks a w fine = go (has_node w.holds (nodes.Store node))
 pub table_follows_goes : (table : ℕ) (lucks : List Luck) (a : Asked) (w : World) → AreFine a w → Goes a w.packets (table_follows table lucks w)
 table_follows_goes table lucks a w fine = go (is_at_work w table)
   where
-    go : (busy : Bool) → Goes a w.packets (if busy then store_follows owner lucks w else still w)
-    go true = follows_go owner lucks a w fine
+    go : (busy : Bool) → Goes a w.packets (if busy then store_follows (owner_of w table) lucks w else still w)
+    go true = follows_go (owner_of w table) lucks a w fine
     go false = still_goes a w fine
 
 start_goes : (table : ℕ) (a : Asked) (w : World) → AreFine a w → Goes a w.packets (start_hosted w table (hosted_at w table))
@@ -210,9 +211,9 @@ start_goes table a w fine = go (hosted_at w table)
     go None = still_goes a w fine
     go (Some hosted) = made hosted.made
       where
-        made : (b : Bool) → Goes a w.packets (if b then move_table table store.Start w else after_table w table (record hosted { made = true }) (declared_late table))
+        made : (b : Bool) → Goes a w.packets (if b then move_table table store.Start w else after_table w table (record hosted { made = true }) (declared_late (owner_of w table) table))
         made true = table_goes a w table store.Start fine
-        made false = after_goes a w table (record hosted { made = true }) (declared_late table) fine ((tt, tt), tt)
+        made false = after_goes a w table (record hosted { made = true }) (declared_late (owner_of w table) table) fine ((tt, tt), tt)
 
 starts_go : (tables : List ℕ) (lucks : List Luck) (a : Asked) (w : World) → AreFine a w → Goes a w.packets (tables_start tables lucks w)
 starts_go [] lucks a w fine = still_goes a w fine
@@ -232,14 +233,14 @@ store_starts_go node lucks a w fine = go m.failed
     tables = tables_of w node
 
     m : Moved
-    m = tables_start tables lucks w
+    m = and_then (tables_fall tables w) (tables_start tables lucks)
 
     first : Goes a w.packets m
-    first = starts_go tables lucks a w fine
+    first = then_goes a (tables_fall tables w) (tables_start tables lucks) (falls_go tables a w fine) (λ b now. starts_go tables lucks b _ now)
 
     go : (failed : Bool)
-        → Goes a w.packets (if failed then and_then m (tables_fall tables) else and_then m (λ x. store_follows node (drop (length tables) lucks) (without_down (nodes.Store node) x)))
-    go true = then_goes a m (tables_fall tables) first (λ b now. falls_go tables b m.world now)
+        → Goes a w.packets (if failed then and_then m (store_falls node) else and_then m (λ x. store_follows node (drop (length tables) lucks) (without_down (nodes.Store node) x)))
+    go true = then_goes a m (store_falls node) first (λ b now. store_falls_goes node b m.world now)
     go false =
         then_goes a m (λ x. store_follows node (drop (length tables) lucks) (without_down (nodes.Store node) x)) first
         (λ b now. follows_go node (drop (length tables) lucks) b (without_down (nodes.Store node) m.world) now)

@@ -15,9 +15,11 @@ use Rattle.step_tables.specs.Messages as messages
 use Rattle.step_tables.specs.ClientMoves as client
 use Rattle.step_tables.specs.ClientMoves.{Client, ClientTask, ClientMove, ClientStep, Shape, no_shape, client_step, is_cut_off, kept_out, phases_by}
 use Rattle.step_tables.proofs.Lists.{among_none, among_cons, among_either}
-use Rattle.world_tables.specs.World.{World, Packet, WorldStep, has_node, schema_at, client_at, still, is_down, is_cut, packets_from, after_client, move_there, move_client, first_luck, other_lucks}
+use Rattle.world_tables.specs.World.{World, Packet, WorldStep, has_node, schema_at, owner_of, client_at, still, is_down, is_cut, packets_from, after_client, move_there, move_client}
+use Rattle.world_tables.specs.World.{first_luck, other_lucks}
 use Rattle.world_tables.specs.World.{client_works, client_tasks, client_until_idle, client_follows, client_writes, starts_by, client_starts, client_falls, unless_down, refused, gets_tasks}
-use Rattle.world_tables.specs.World.{is_resolving, unless_cut, unless_kept, calls, call_there, reads, with_phases, and_then, and_unless, Moved, listed, first_shape, other_shapes, chosen_of, client_pairs, resolve_by, plan_size, resolve_each, resolve_all}
+use Rattle.world_tables.specs.World.{is_resolving, unless_cut, unless_kept, calls, call_there, reads, with_phases, and_then, and_unless, Moved, listed, first_shape, other_shapes, chosen_of}
+use Rattle.world_tables.specs.World.{client_pairs, resolve_by, plan_size, resolve_each, resolve_all}
 use Rattle.fair_laws.specs.Fair.{IsFairRequest, AreFairSends, IsFairClient, IsFairStep}
 use Rattle.fair_laws.specs.Worlds.{IsFairMessage, IsFair}
 use Rattle.fair_laws.proofs.Fairness.{step_fair}
@@ -33,12 +35,12 @@ from_client known c is (PullResponse q) r = absurd r
 from_client known c is (TornRowRequest q) r = subst IsClient (sym r) is
 from_client known c is (TornRowResponse q) r = absurd r
 
-sent_fair : (known : ℕ → Option Schema) (c : ℕ) → IsClient c → (sends : List Send) → AreFairSends known c sends
-    → (p : Packet) → Among (packets_from (nodes.Client c) sends) p → IsFairMessage known p.from p.message
-sent_fair known c is [] f p a = absurd (among_none p a)
-sent_fair known c is (send ∷ sends) f p a =
-    ⊎_elim (λ e. subst (λ (x : Packet). IsFairMessage known x.from x.message) e (from_client known c is send.message f.0)) (sent_fair known c is sends f.1 p)
-    (among_cons _ (packets_from (nodes.Client c) sends) p a)
+sent_fair : (known : ℕ → Option Schema) (owners : ℕ → ℕ) (c : ℕ) → IsClient c → (sends : List Send) → AreFairSends known c sends
+    → (p : Packet) → Among (packets_from owners (nodes.Client c) sends) p → IsFairMessage known p.from p.message
+sent_fair known owners c is [] f p a = absurd (among_none p a)
+sent_fair known owners c is (send ∷ sends) f p a =
+    ⊎_elim (λ e. subst (λ (x : Packet). IsFairMessage known x.from x.message) e (from_client known c is send.message f.0)) (sent_fair known owners c is sends f.1 p)
+    (among_cons _ (packets_from owners (nodes.Client c) sends) p a)
 
 after_fair : (w : World) (c : ℕ) (there : Client) (s : ClientStep) → client_at w c ≡ Some there → IsFair w → IsFairStep (schema_at w) c s → IsFair (after_client w c s).world
 after_fair w c there s at f fair = record {
@@ -47,8 +49,8 @@ after_fair w c there s at f fair = record {
   numbers = λ q is. f.numbers q (sym (some_after w.clients c there s.client q at) ∙ is);
   tables = f.tables;
   clients = all_after (IsFairClient (schema_at w)) w.clients c s.client fair.client f.clients;
-  packets = λ p a. ⊎_elim (f.packets p) (sent_fair (schema_at w) c (f.numbers c (ap (λ (o : Option Client). is_some o) at)) s.sends fair.sends p)
-      (among_either w.packets (packets_from (nodes.Client c) s.sends) p a);
+  packets = λ p a. ⊎_elim (f.packets p) (sent_fair (schema_at w) (owner_of w) c (f.numbers c (ap (λ (o : Option Client). is_some o) at)) s.sends fair.sends p)
+      (among_either w.packets (packets_from (owner_of w) (nodes.Client c) s.sends) p a);
 }
 
 pub client_fair : (w : World) (c : ℕ) (move : ClientMove) (shape : Shape) → IsFair w → IsFair (move_client c move shape w).world

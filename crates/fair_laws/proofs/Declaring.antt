@@ -1,6 +1,6 @@
 -- A table more, and a client more.
 use Rattle.std.proofs.Common.{◌≡◌, ℕ, Bool, true, false, cond, List, [], Option, Some, None, refl, sym, ◌∙◌, ap}
-use Rattle.std.specs.Prelude.{is_some, not}
+use Rattle.std.specs.Prelude.{is_some}
 use Rattle.std.specs.Ordering.{nat_cmp}
 use Rattle.std.specs.Cmp.{nat_cmp_total}
 use Rattle.std.specs.Map.{lookup}
@@ -13,13 +13,13 @@ use Rattle.step_tables.specs.Messages.{Message, Luck, SyncRequest, SyncResponse,
 use Rattle.step_tables.specs.Messages as messages
 use Rattle.step_tables.specs.StoreMoves.{TableStore}
 use Rattle.step_tables.proofs.Lists.{lookup-insert}
-use Rattle.world_tables.specs.World.{World, Hosted, schema_at, hosted_at, owner, the_store, is_down, agenda_of, with_table, made_with, declared, joined, open_all, new_client, first_agenda}
+use Rattle.world_tables.specs.World.{World, Hosted, schema_at, hosted_at, agenda_of, with_table, made_with, declared, joined, open_all, new_client, first_agenda}
 use Rattle.fair_laws.specs.Fair.{IsFairClient}
 use Rattle.fair_laws.specs.Reached.{IsMade}
 use Rattle.fair_laws.specs.Worlds.{IsFairMessage, IsFairStore, IsFair}
 use Rattle.fair_laws.proofs.Fairness.{at_same, client_more, new_fair}
 use Rattle.fair_laws.proofs.Stores.{none_fair, store_more, row_more, header_more}
-use Rattle.fair_laws.proofs.Hosting.{all_after, store_falls_fair}
+use Rattle.fair_laws.proofs.Hosting.{all_after}
 
 nothing_at : {X : Type 0} (o : Option X) → is_some o ≡ false → o ≡ None
 nothing_at None e = refl
@@ -39,15 +39,15 @@ message_more known more is from (TornRowResponse q) f = (header_more known more 
 -- ---- a table more
 
 module _ (w : World) (f : IsFair w) (table : ℕ) (schema : Schema) (is_made : IsMade table schema) where
-  module _ (none : hosted_at w table ≡ None) (made up : Bool) where
+  module _ (none : hosted_at w table ≡ None) (made : Bool) where
     abbrev new_store : TableStore
-    new_store = record { disk = record { items = []; pending = None; left = [] }; agenda = agenda_of up }
+    new_store = record { disk = record { items = []; pending = None; left = [] }; agenda = agenda_of made }
 
     abbrev new_table : Hosted
     new_table = record { store = new_store; history = []; made = made }
 
     abbrev after : World
-    after = with_table w table schema made up
+    after = with_table w table schema made
 
     unknown : schema_at w table ≡ None
     unknown = nothing_at (schema_at w table) (f.both table ∙ ap (λ (o : Option Hosted). is_some o) none)
@@ -74,7 +74,7 @@ module _ (w : World) (f : IsFair w) (table : ℕ) (schema : Schema) (is_made : I
       both = λ q. ap (λ (o : Option Schema). is_some o) (known q) ∙ (go q (is_at (nat_cmp table) q) ∙ sym (ap (λ (o : Option Hosted). is_some o) (there q)));
       made = all_after IsMade w.schemas table schema is_made f.made;
       numbers = f.numbers;
-      tables = all_after (λ (q : ℕ) (x : Hosted). IsFairStore (schema_at after) q x.store) w.tables table new_table (new_is_fair up)
+      tables = all_after (λ (q : ℕ) (x : Hosted). IsFairStore (schema_at after) q x.store) w.tables table new_table (new_is_fair made)
           (λ q x at. store_more (schema_at w) (schema_at after) more_known q x.store (f.tables q x at));
       clients = λ c s at. client_more (schema_at w) (schema_at after) c more_known s (f.clients c s at);
       packets = λ p a. message_more (schema_at w) (schema_at after) more_known p.from p.message (f.packets p a);
@@ -89,9 +89,9 @@ module _ (w : World) (f : IsFair w) (table : ℕ) (schema : Schema) (is_made : I
   declared_fair luck None at = go luck
     where
       go : (x : Luck) → IsFair (made_with w table schema x)
-      go messages.Done = with_fair at true (not (is_down w the_store))
-      go messages.FailedBefore = store_falls_fair owner (with_table w table schema false false) (with_fair at false false)
-      go messages.FailedAfter = store_falls_fair owner (with_table w table schema false false) (with_fair at false false)
+      go messages.Done = with_fair at true
+      go messages.FailedBefore = with_fair at false
+      go messages.FailedAfter = with_fair at false
 
 -- ---- a client more
 

@@ -1,7 +1,7 @@
 -- What an event keeps of a world, and a run from the start: each row is one of its table, and each request is its
 -- client's own.
 use Rattle.std.proofs.Common.{◌≡◌, ℕ, Bool, true, false, List, [], ◌∷◌, length, Option, Some, None, refl}
-use Rattle.std.specs.Prelude.{slice_get, if◌then◌else◌}
+use Rattle.std.specs.Prelude.{slice_get, ◌&&◌, if◌then◌else◌}
 use Rattle.std.specs.List.{AllByRecursion}
 use Rattle.stab_base.specs.declared.node.Node.{Node}
 use Rattle.stab_base.specs.declared.node.Node.TheVariants as nodes
@@ -15,14 +15,15 @@ use Rattle.step_tables.specs.StoreMoves.{StoreTask}
 use Rattle.step_tables.specs.ClientMoves as client
 use Rattle.step_tables.specs.ClientMoves.{Client, Shape, no_shape}
 use Rattle.step_tables.proofs.Lists.{among_none, among_get}
-use Rattle.world_tables.specs.World.{World, Packet, Hosted, Lucks, start, schema_at, hosted_at, client_at, owner, the_store, is_down, without_node, with_link, move_table, first_luck, other_lucks}
-use Rattle.world_tables.specs.World.{client_tasks, client_starts, busy_table, tasks_of, store_starts, crash_luck, answering, answered, linked}
+use Rattle.world_tables.specs.World.{World, Packet, Hosted, Lucks, start, schema_at, hosted_at, client_at, owner_of, hosted_by, has_store, is_down, without_node, with_link, move_table}
+use Rattle.world_tables.specs.World.{first_luck, other_lucks}
+use Rattle.world_tables.specs.World.{client_tasks, client_starts, busy_table, tasks_of, store_starts, crash_luck, answering, answered, linked, joining}
 use Rattle.world_tables.specs.World.{take_read, take_at, to_hosted, to_there, call, carried, delivered, row_read, store_shows, chunk_names, history_lines, worked, all_worked, crashed, started, step}
 use Rattle.world_tables.specs.Turns.{Happening, world_from}
 use Rattle.fair_laws.specs.Reached.{IsBuilt}
 use Rattle.fair_laws.specs.Worlds.{IsFairMessage, IsFair}
 use Rattle.fair_laws.proofs.Stores.{TakesFair}
-use Rattle.fair_laws.proofs.Hosting.{beside_fair, table_fair, store_falls_fair, write_fair, works_fair, table_follows_fair, crashes_fair, store_starts_fair}
+use Rattle.fair_laws.proofs.Hosting.{with_stores, beside_fair, table_fair, store_falls_fair, write_fair, works_fair, table_follows_fair, crashes_fair, store_starts_fair}
 use Rattle.fair_laws.proofs.Calling.{client_fair, client_works_fair, client_writes_fair, client_starts_fair, unless_down_fair, call_fair, listed_fair, resolve_all_fair}
 use Rattle.fair_laws.proofs.Declaring.{declared_fair, joined_fair}
 
@@ -38,15 +39,15 @@ module _ (w : World) (f : IsFair w) where
 
       read : (luck : Luck) → IsFair (take_read w table hosted (store.Take from m) (other_lucks lucks) luck).world
       read messages.Done = table_follows_fair table (other_lucks lucks) (move_table table (store.Take from m) w).world first
-      read messages.FailedBefore = store_falls_fair owner w f
-      read messages.FailedAfter = store_falls_fair owner w f
+      read messages.FailedBefore = store_falls_fair (owner_of w table) w f
+      read messages.FailedAfter = store_falls_fair (owner_of w table) w f
 
       go : (o : Option (List StoreTask)) → IsFair (take_at w table hosted (store.Take from m) lucks o).world
       go None = first
       go (Some (task ∷ more)) = first
       go (Some []) = read (first_luck lucks)
 
-  takes_fair : (from : Node) (m : Message) → IsFairMessage (schema_at w) from m → TakesFair (schema_at w) (table_of m) m
+  pub takes_fair : (from : Node) (m : Message) → IsFairMessage (schema_at w) from m → TakesFair (schema_at w) (table_of m) m
   takes_fair from (SyncRequest q) is = (is.0, is.1)
   takes_fair from (PullRequest q) is = (refl, is)
   takes_fair from (SyncResponse r) is = tt
@@ -56,7 +57,7 @@ module _ (w : World) (f : IsFair w) where
 
   carried_fair : (p : Packet) → IsFairMessage (schema_at w) p.from p.message → (shape : Shape) (lucks : List Luck) (to : Node) → IsFair (carried w p shape lucks to).world
   carried_fair p is shape lucks (nodes.Store number) = unless_down_fair w f (nodes.Store number) _
-      (hosted_fair (table_of p.message) p.from p.message (takes_fair p.from p.message is) lucks (hosted_at w (table_of p.message)))
+      (hosted_fair (table_of p.message) p.from p.message (takes_fair p.from p.message is) lucks (hosted_by w number (table_of p.message)))
   carried_fair p is shape lucks (nodes.Gate gate) = f
   carried_fair p is shape lucks (nodes.Client c) = go (client_at w c)
     where
@@ -78,14 +79,14 @@ module _ (w : World) (f : IsFair w) where
       go true = beside_fair w w.holds w.downs (without_node w.cuts (nodes.Client c)) w.phases f
       go false = beside_fair w w.holds w.downs (nodes.Client c ∷ w.cuts) w.phases f
 
-  shows_fair : (row : List ℕ) (lucks : List Luck) (o : Option Hosted) → IsFair (store_shows w row lucks o).world
-  shows_fair row lucks None = f
-  shows_fair row lucks (Some hosted) = unless_down_fair w f the_store _ (read (first_luck lucks))
+  shows_fair : (table : ℕ) (row : List ℕ) (lucks : List Luck) (o : Option Hosted) → IsFair (store_shows w table row lucks o).world
+  shows_fair table row lucks None = f
+  shows_fair table row lucks (Some hosted) = unless_down_fair w f (nodes.Store (owner_of w table)) _ (read (first_luck lucks))
     where
-      read : (luck : Luck) → IsFair (row_read w hosted row luck).world
+      read : (luck : Luck) → IsFair (row_read w table hosted row luck).world
       read messages.Done = f
-      read messages.FailedBefore = store_falls_fair owner w f
-      read messages.FailedAfter = store_falls_fair owner w f
+      read messages.FailedBefore = store_falls_fair (owner_of w table) w f
+      read messages.FailedAfter = store_falls_fair (owner_of w table) w f
 
   history_fair : (table : ℕ) (o : Option Hosted) → IsFair (history_lines w table o).world
   history_fair table None = f
@@ -93,7 +94,7 @@ module _ (w : World) (f : IsFair w) where
 
   chunks_fair : (table : ℕ) (o : Option Hosted) → IsFair (chunk_names w table o).world
   chunks_fair table None = f
-  chunks_fair table (Some hosted) = unless_down_fair w f the_store _ f
+  chunks_fair table (Some hosted) = unless_down_fair w f (nodes.Store (owner_of w table)) _ f
 
   -- ---- what is done to a node
 
@@ -113,7 +114,7 @@ module _ (w : World) (f : IsFair w) where
   crashed_fair calls lucks (nodes.Gate gate) = f
 
   started_fair : (shape : Shape) (lucks : List Luck) (node : Node) → IsFair (started w shape lucks node).world
-  started_fair shape lucks (nodes.Store number) = go (is_down w (nodes.Store number))
+  started_fair shape lucks (nodes.Store number) = go (has_store w number && is_down w (nodes.Store number))
     where
       go : (b : Bool) → IsFair (if b then answering facts.Done (store_starts number lucks w) else answered w facts.Done).world
       go true = store_starts_fair number lucks w f
@@ -128,7 +129,7 @@ module _ (w : World) (f : IsFair w) where
   -- ---- every event
 
   pub step_fair : (event : Event) → IsBuilt event → (lucks : Lucks) → IsFair (step w event lucks).world
-  step_fair (events.Store number) built lucks = f
+  step_fair (events.Store number) built lucks = with_stores w (number ∷ w.stores) (joining number w.downs) f
   step_fair (events.Table table schema) built lucks = declared_fair w f table schema built (first_luck lucks.calls) (hosted_at w table) refl
   step_fair (events.Client c gate tables) built lucks = joined_fair w f c built tables (first_luck lucks.calls) (client_at w c)
   step_fair (events.Write c table row x) built lucks = call_fair w f c (client.Write table row x) lucks.shape lucks.calls (client_at w c)
@@ -147,7 +148,7 @@ module _ (w : World) (f : IsFair w) where
       resolve_all_fair c table by w f lucks.shapes (other_lucks lucks.calls) (call w c (client.ResolveAll table by) lucks.shape lucks.calls)
       (call_fair w f c (client.ResolveAll table by) lucks.shape lucks.calls (client_at w c))
   step_fair (events.Deliver packet) built lucks = delivered_fair lucks.shape lucks.calls packet (slice_get w.packets packet) refl
-  step_fair (events.StoreShow table row) built lucks = shows_fair row lucks.calls (hosted_at w table)
+  step_fair (events.StoreShow table row) built lucks = shows_fair table row lucks.calls (hosted_at w table)
   step_fair (events.History table) built lucks = history_fair table (hosted_at w table)
   step_fair (events.Chunks table) built lucks = chunks_fair table (hosted_at w table)
   step_fair (events.Hold node) built lucks = unless_down_fair w f node _ (beside_fair w (node ∷ w.holds) w.downs w.cuts w.phases f)

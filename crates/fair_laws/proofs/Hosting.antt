@@ -15,7 +15,7 @@ use Rattle.step_tables.specs.Messages as messages
 use Rattle.step_tables.specs.StoreMoves as store
 use Rattle.step_tables.specs.StoreMoves.{StoreMove, StoreStep}
 use Rattle.step_tables.proofs.Lists.{among_none, among_cons, among_either, lookup-insert, lookup-insert_nat}
-use Rattle.world_tables.specs.World.{World, Packet, Hosted, Moved, owner, the_store, has_node, schema_at, scheme_in, chunk_in, hosted_at, still, and_then, and_unless, packets_from}
+use Rattle.world_tables.specs.World.{World, Packet, Hosted, Moved, owner_of, has_node, schema_at, scheme_in, chunk_in, hosted_at, still, and_then, and_unless, packets_from}
 use Rattle.world_tables.specs.World.{history_on, after_table, table_step, move_hosted, move_table, first_luck, other_lucks, tables_of, tables_fall, without_down, store_falls, or_falls}
 use Rattle.world_tables.specs.World.{busy_table, write_next, store_works, tasks_of, store_until_idle, store_follows, table_follows, is_at_work, declared_late, start_hosted, table_starts}
 use Rattle.world_tables.specs.World.{tables_start, store_starts, crash_luck, table_crashes, store_crashes}
@@ -23,7 +23,10 @@ use Rattle.fair_laws.specs.Worlds.{IsFromStore, IsFairMessage, AreStoreSends, Is
 use Rattle.fair_laws.proofs.Fairness.{at_same}
 use Rattle.fair_laws.proofs.Stores.{IsFairMove, IsFairStep, move_fair, late_fair}
 
--- holds, Stores and links that are down, and phases that are open beside it
+-- other Stores, holds, Stores and links that are down, and phases that are open beside it
+pub with_stores : (w : World) (stores : List ℕ) (downs : List Node) → IsFair w → IsFair (record w { stores = stores; downs = downs })
+with_stores w stores downs f = record { both = f.both; made = f.made; numbers = f.numbers; tables = f.tables; clients = f.clients; packets = f.packets }
+
 pub beside_fair : (w : World) (holds downs cuts : List Node) (phases : List (ℕ × ℕ)) → IsFair w → IsFair (record w { holds = holds; downs = downs; cuts = cuts; phases = phases })
 beside_fair w holds downs cuts phases f = record { both = f.both; made = f.made; numbers = f.numbers; tables = f.tables; clients = f.clients; packets = f.packets }
 
@@ -52,13 +55,14 @@ from_store known from (PullResponse q) f = f
 from_store known from (TornRowRequest q) f = absurd f
 from_store known from (TornRowResponse q) f = f
 
-sent_fair : (known : ℕ → Option Schema) (sends : List Send) → AreStoreSends known sends → (p : Packet) → Among (packets_from the_store sends) p → IsFairMessage known p.from p.message
-sent_fair known [] f p a = absurd (among_none p a)
-sent_fair known (send ∷ sends) f p a =
-    ⊎_elim (λ e. subst (λ (x : Packet). IsFairMessage known x.from x.message) e (from_store known the_store send.message f.0)) (sent_fair known sends f.1 p)
-    (among_cons _ (packets_from the_store sends) p a)
+sent_fair : (known : ℕ → Option Schema) (owners : ℕ → ℕ) (from : Node) (sends : List Send) → AreStoreSends known sends
+    → (p : Packet) → Among (packets_from owners from sends) p → IsFairMessage known p.from p.message
+sent_fair known owners from [] f p a = absurd (among_none p a)
+sent_fair known owners from (send ∷ sends) f p a =
+    ⊎_elim (λ e. subst (λ (x : Packet). IsFairMessage known x.from x.message) e (from_store known from send.message f.0)) (sent_fair known owners from sends f.1 p)
+    (among_cons _ (packets_from owners from sends) p a)
 
-after_fair : (w : World) (table : ℕ) (there hosted : Hosted) (s : StoreStep) → hosted_at w table ≡ Some there → IsFair w → IsFairStep (schema_at w) table s
+pub after_fair : (w : World) (table : ℕ) (there hosted : Hosted) (s : StoreStep) → hosted_at w table ≡ Some there → IsFair w → IsFairStep (schema_at w) table s
     → IsFair (after_table w table hosted s).world
 after_fair w table there hosted s at f fair = record {
   both = λ q. f.both q ∙ sym (some_after w.tables table there new q at);
@@ -66,7 +70,8 @@ after_fair w table there hosted s at f fair = record {
   numbers = f.numbers;
   tables = all_after (λ (q : ℕ) (x : Hosted). IsFairStore (schema_at w) q x.store) w.tables table new fair.store f.tables;
   clients = f.clients;
-  packets = λ p a. ⊎_elim (f.packets p) (sent_fair (schema_at w) s.sends fair.sends p) (among_either w.packets (packets_from the_store s.sends) p a);
+  packets = λ p a. ⊎_elim (f.packets p) (sent_fair (schema_at w) (owner_of w) (nodes.Store (owner_of w table)) s.sends fair.sends p)
+      (among_either w.packets (packets_from (owner_of w) (nodes.Store (owner_of w table)) s.sends) p a);
 }
   where
     new : Hosted
@@ -78,7 +83,7 @@ table_fair w table move takes f = go (hosted_at w table) refl
     go : (o : Option Hosted) → hosted_at w table ≡ o → IsFair (move_hosted w table move o).world
     go None at = f
     go (Some hosted) at = after_fair w table hosted hosted (table_step w table hosted move) at f
-        (move_fair (schema_at w) table owner (scheme_in (schema_at w table)) (chunk_in (schema_at w table)) hosted.store move takes (f.tables table hosted at))
+        (move_fair (schema_at w) table (owner_of w table) (scheme_in (schema_at w table)) (chunk_in (schema_at w table)) hosted.store move takes (f.tables table hosted at))
 
 unless_fair : (m : Moved) (g : World → Moved) → IsFair m.world → (IsFair m.world → IsFair (g m.world).world) → IsFair (and_unless m g).world
 unless_fair m g a b = go m.failed
@@ -129,8 +134,8 @@ follows_fair number lucks w f = go (has_node w.holds (nodes.Store number))
 pub table_follows_fair : (table : ℕ) (lucks : List Luck) (w : World) → IsFair w → IsFair (table_follows table lucks w).world
 table_follows_fair table lucks w f = go (is_at_work w table)
   where
-    go : (busy : Bool) → IsFair (if busy then store_follows owner lucks w else still w).world
-    go true = follows_fair owner lucks w f
+    go : (busy : Bool) → IsFair (if busy then store_follows (owner_of w table) lucks w else still w).world
+    go true = follows_fair (owner_of w table) lucks w f
     go false = f
 
 -- ---- a crash and a start
@@ -149,9 +154,9 @@ start_fair : (w : World) (table : ℕ) → IsFair w → IsFair (start_hosted w t
 start_fair w table f = go (hosted_at w table) refl
   where
     made : (hosted : Hosted) (b : Bool) → hosted_at w table ≡ Some hosted
-        → IsFair (if b then move_table table store.Start w else after_table w table (record hosted { made = true }) (declared_late table)).world
+        → IsFair (if b then move_table table store.Start w else after_table w table (record hosted { made = true }) (declared_late (owner_of w table) table)).world
     made hosted true at = table_fair w table store.Start tt f
-    made hosted false at = after_fair w table hosted (record hosted { made = true }) (declared_late table) at f (late_fair (schema_at w) table)
+    made hosted false at = after_fair w table hosted (record hosted { made = true }) (declared_late (owner_of w table) table) at f (late_fair (schema_at w) table (owner_of w table))
 
     go : (o : Option Hosted) → hosted_at w table ≡ o → IsFair (start_hosted w table o).world
     go None at = f
@@ -175,14 +180,14 @@ store_starts_fair number lucks w f = go m.failed
     tables = tables_of w number
 
     m : Moved
-    m = tables_start tables lucks w
+    m = and_then (tables_fall tables w) (tables_start tables lucks)
 
     there : IsFair m.world
-    there = tables_start_fair tables lucks w f
+    there = tables_start_fair tables lucks (tables_fall tables w).world (falls_fair tables w f)
 
     up : World
     up = without_down (nodes.Store number) m.world
 
-    go : (failed : Bool) → IsFair (if failed then and_then m (tables_fall tables) else and_then m (λ x. store_follows number (drop (length tables) lucks) (without_down (nodes.Store number) x))).world
-    go true = falls_fair tables m.world there
+    go : (failed : Bool) → IsFair (if failed then and_then m (store_falls number) else and_then m (λ x. store_follows number (drop (length tables) lucks) (without_down (nodes.Store number) x))).world
+    go true = store_falls_fair number m.world there
     go false = follows_fair number (drop (length tables) lucks) up (beside_fair m.world m.world.holds up.downs m.world.cuts m.world.phases there)

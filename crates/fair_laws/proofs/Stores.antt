@@ -17,7 +17,8 @@ use Rattle.step_tables.specs.Messages.{Request, Pull, Pair, Header, Pulled, Mess
 use Rattle.step_tables.specs.Messages.{TornPull, TornRowRequest, TornRowResponse}
 use Rattle.step_tables.specs.Messages as messages
 use Rattle.step_tables.specs.StoreMoves.{StoreDisk, StoreChange, StoreTask, TableStore, StoreMove, StoreStep, store_step, changed, done, crashed, worked, failed, recovering, reopening, recover}
-use Rattle.step_tables.specs.StoreMoves.{started, recovered, item_at, takes, keeps_there, judged, decided, asked, pulled_for, header_for, taken, accepting, item_for, puts, drops, only, version_of, yours_in, unaccepted}
+use Rattle.step_tables.specs.StoreMoves.{started, recovered, item_at, takes, keeps_there, judged, decided, asked, pulled_for, header_for, taken, accepting, item_for, puts, drops, only}
+use Rattle.step_tables.specs.StoreMoves.{version_of, yours_in, unaccepted}
 use Rattle.step_tables.specs.StoreMoves.{torn_pulled_for}
 use Rattle.step_tables.specs.StoreMoves as store
 use Rattle.world_tables.specs.World.{tasks_in, declared_late}
@@ -221,8 +222,8 @@ module _ (known : ℕ → Option Schema) (table : ℕ) where
   move_fair number g size s (store.Crash luck) t f = crashed_fair s.disk s.agenda luck f.items f.tasks
   move_fair number g size s store.Start t f = started_fair number s.disk f.items s.agenda f.tasks
 
-  pub late_fair : IsFairStep known table (declared_late table)
-  late_fair = record { store = record { items = tt; tasks = tt }; sends = tt }
+  pub late_fair : (number : ℕ) → IsFairStep known table (declared_late number table)
+  late_fair number = record { store = record { items = tt; tasks = tt }; sends = tt }
 
   pub none_fair : (agenda : Option (List StoreTask)) → AreTasks (tasks_in agenda) → IsFairStore known table (record { disk = record { items = []; pending = None; left = [] }; agenda = agenda })
   none_fair agenda p = record { items = tt; tasks = p }

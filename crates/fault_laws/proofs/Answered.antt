@@ -14,8 +14,10 @@ use Rattle.step_tables.specs.StoreMoves as store
 use Rattle.step_tables.specs.StoreMoves.{StoreMove, StoreTask}
 use Rattle.step_tables.specs.ClientMoves as client
 use Rattle.step_tables.specs.ClientMoves.{Client, ClientMove, Shape, client_step, is_cut_off, kept_out}
-use Rattle.world_tables.specs.World.{World, Packet, Hosted, Moved, WorldStep, hosted_at, client_at, the_store, is_down, refused, unless_down, call_there, take_read, take_at, to_hosted, to_there, carried}
-use Rattle.world_tables.specs.World.{delivered, row_read, store_shows, chunk_names, history_lines, worked, all_worked, crashed, started, first_luck, other_lucks, answering, still, store_starts, client_starts, step}
+use Rattle.world_tables.specs.World.{World, Packet, Hosted, Moved, WorldStep, hosted_at, client_at, owner_of, hosted_by, has_store, is_down, refused, unless_down, call_there, take_read}
+use Rattle.world_tables.specs.World.{take_at, to_hosted, to_there, carried}
+use Rattle.world_tables.specs.World.{delivered, row_read, store_shows, chunk_names, history_lines, worked, all_worked, crashed, started, first_luck, other_lucks, answering, still}
+use Rattle.world_tables.specs.World.{store_starts, client_starts, step}
 use Rattle.world_tables.specs.World.{Lucks, is_cut, is_resolving, unless_cut, unless_kept, calls, call, linked, listed, resolve_all}
 use Rattle.world_tables.specs.World as world
 
@@ -91,7 +93,7 @@ to_hosted_answered w table move lucks (Some hosted) = go hosted.store.agenda
 
 carried_answered : (w : World) (packet : Packet) (shape : Shape) (lucks : List Luck) (to : Node) → IsAnswered (carried w packet shape lucks to)
 carried_answered w packet shape lucks (nodes.Store number) =
-    up_answered w (nodes.Store number) _ (to_hosted_answered w (table_of packet.message) (store.Take packet.from packet.message) lucks (hosted_at w (table_of packet.message)))
+    up_answered w (nodes.Store number) _ (to_hosted_answered w (table_of packet.message) (store.Take packet.from packet.message) lucks (hosted_by w number (table_of packet.message)))
 carried_answered w packet shape lucks (nodes.Client c) = to_there_answered w c packet.message shape lucks (client_at w c)
 carried_answered w packet shape lucks (nodes.Gate gate) = refl
 
@@ -99,14 +101,14 @@ delivered_answered : (w : World) (shape : Shape) (lucks : List Luck) (o : Option
 delivered_answered w shape lucks None = refl
 delivered_answered w shape lucks (Some packet) = carried_answered w packet shape lucks packet.to
 
-row_answered : (w : World) (hosted : Hosted) (row : List ℕ) (luck : Luck) → IsAnswered (row_read w hosted row luck)
-row_answered w hosted row messages.Done = refl
-row_answered w hosted row messages.FailedBefore = refl
-row_answered w hosted row messages.FailedAfter = refl
+row_answered : (w : World) (table : ℕ) (hosted : Hosted) (row : List ℕ) (luck : Luck) → IsAnswered (row_read w table hosted row luck)
+row_answered w table hosted row messages.Done = refl
+row_answered w table hosted row messages.FailedBefore = refl
+row_answered w table hosted row messages.FailedAfter = refl
 
-shows_answered : (w : World) (row : List ℕ) (lucks : List Luck) (o : Option Hosted) → IsAnswered (store_shows w row lucks o)
-shows_answered w row lucks None = refl
-shows_answered w row lucks (Some hosted) = up_answered w the_store _ (row_answered w hosted row (first_luck lucks))
+shows_answered : (w : World) (table : ℕ) (row : List ℕ) (lucks : List Luck) (o : Option Hosted) → IsAnswered (store_shows w table row lucks o)
+shows_answered w table row lucks None = refl
+shows_answered w table row lucks (Some hosted) = up_answered w (nodes.Store (owner_of w table)) _ (row_answered w table hosted row (first_luck lucks))
 
 history_answered : (w : World) (table : ℕ) (o : Option Hosted) → IsAnswered (history_lines w table o)
 history_answered w table None = refl
@@ -114,7 +116,7 @@ history_answered w table (Some hosted) = refl
 
 names_answered : (w : World) (table : ℕ) (o : Option Hosted) → IsAnswered (chunk_names w table o)
 names_answered w table None = refl
-names_answered w table (Some hosted) = up_answered w the_store _ refl
+names_answered w table (Some hosted) = up_answered w (nodes.Store (owner_of w table)) _ refl
 
 worked_answered : (w : World) (lucks : List Luck) (node : Node) → IsAnswered (worked w lucks node)
 worked_answered w lucks (nodes.Store number) = refl
@@ -139,7 +141,7 @@ started_answered w shape lucks node = at node
     up false m = refl
 
     at : (n : Node) → IsAnswered (started w shape lucks n)
-    at (nodes.Store number) = up (is_down w (nodes.Store number)) (store_starts number lucks w)
+    at (nodes.Store number) = up (has_store w number && is_down w (nodes.Store number)) (store_starts number lucks w)
     at (nodes.Gate gate) = refl
     at (nodes.Client c) = up (is_down w (nodes.Client c)) (client_starts c shape lucks w)
 
@@ -169,7 +171,7 @@ step_answered w (events.ResolveAll c table by) lucks e =
     all_answered w c table by lucks.shapes (other_lucks lucks.calls) (call w c (client.ResolveAll table by) lucks.shape lucks.calls)
     (call_answered w c (client.ResolveAll table by) lucks.shape lucks.calls (client_at w c))
 step_answered w (events.Deliver packet) lucks e = delivered_answered w lucks.shape lucks.calls (slice_get w.packets packet)
-step_answered w (events.StoreShow table row) lucks e = shows_answered w row lucks.calls (hosted_at w table)
+step_answered w (events.StoreShow table row) lucks e = shows_answered w table row lucks.calls (hosted_at w table)
 step_answered w (events.History table) lucks e = history_answered w table (hosted_at w table)
 step_answered w (events.Chunks table) lucks e = names_answered w table (hosted_at w table)
 step_answered w (events.Hold node) lucks e = up_answered w node _ refl

@@ -15,12 +15,15 @@ use Rattle.step_tables.specs.StoreMoves as store
 use Rattle.step_tables.specs.StoreMoves.{StoreMove, StoreTask}
 use Rattle.step_tables.specs.ClientMoves as client
 use Rattle.step_tables.specs.ClientMoves.{Client, ClientTask, ClientMove, ClientStep, Shape, client_step, is_cut_off, kept_out}
-use Rattle.world_tables.specs.World.{World, Packet, Hosted, Moved, WorldStep, hosted_at, client_at, owner, the_store, tables_of, has_node, is_down, still, and_then, and_unless, is_fault}
-use Rattle.world_tables.specs.World.{move_hosted, move_table, move_there, move_client, moved_client, tasks_in, first_luck, other_lucks, client_works, client_tasks, client_until_idle, client_follows, client_writes, client_starts, tables_fall, without_down, store_falls}
+use Rattle.world_tables.specs.World.{World, Packet, Hosted, Moved, WorldStep, hosted_at, client_at, owner_of, hosted_by, has_store, tables_of, has_node, is_down, still, and_then, and_unless, is_fault}
+use Rattle.world_tables.specs.World.{move_hosted, move_table, move_there, move_client, moved_client, tasks_in, first_luck, other_lucks, client_works, client_tasks, client_until_idle}
+use Rattle.world_tables.specs.World.{client_follows, client_writes, client_starts, tables_fall, without_down, store_falls}
 use Rattle.world_tables.specs.World.{or_falls, is_at_work, busy_table, write_next, store_works, tasks_of, store_until_idle, store_follows, table_follows, table_starts, tables_start, store_starts}
-use Rattle.world_tables.specs.World.{luck_of, crash_luck, table_crashes, client_crashes, answering, refused, silent, unless_down, gets_tasks, client_follows_from, call_there, take_read, take_at, to_hosted}
+use Rattle.world_tables.specs.World.{luck_of, crash_luck, table_crashes, client_crashes, answering, refused, silent, unless_down, gets_tasks, client_follows_from, call_there, take_read}
+use Rattle.world_tables.specs.World.{take_at, to_hosted}
 use Rattle.world_tables.specs.World.{to_there, carried, delivered, row_read, store_shows, crashed, started, worked, all_worked, declared, made_with, table_step, step}
-use Rattle.world_tables.specs.World.{Lucks, starts_by, is_cut, is_resolving, unless_cut, unless_kept, calls, call, joined, listed, first_shape, other_shapes, resolve_by, plan_size, resolve_each, resolve_all, client_pairs}
+use Rattle.world_tables.specs.World.{Lucks, starts_by, is_cut, is_resolving, unless_cut, unless_kept, calls, call, joined, listed, first_shape, other_shapes, resolve_by, plan_size}
+use Rattle.world_tables.specs.World.{resolve_each, resolve_all, client_pairs}
 use Rattle.world_tables.specs.World as world
 use Rattle.world_tables.specs.Faults.{is_failure, fails_new, fails_joined, fails_cut, fails_write, fails_crash, is_fault_answer, is_device_fault, quiet_lucks}
 
@@ -267,9 +270,9 @@ store_follows_same number lucks w e = go (has_node w.holds (nodes.Store number))
 table_follows_same : (table : ℕ) (lucks : List Luck) (w : World) → (table_follows table lucks w).failed ≡ false → table_follows table lucks w ≡ table_follows table [] w
 table_follows_same table lucks w e = go (is_at_work w table) e
   where
-    go : (b : Bool) → (λ (x : Moved). x.failed ≡ false) (if b then store_follows owner lucks w else still w)
-        → (if b then store_follows owner lucks w else still w) ≡ (if b then store_follows owner [] w else still w)
-    go true e = store_follows_same owner lucks w e
+    go : (b : Bool) → (λ (x : Moved). x.failed ≡ false) (if b then store_follows (owner_of w table) lucks w else still w)
+        → (if b then store_follows (owner_of w table) lucks w else still w) ≡ (if b then store_follows (owner_of w table) [] w else still w)
+    go true e = store_follows_same (owner_of w table) lucks w e
     go false e = refl
 
 -- ---- starts
@@ -290,22 +293,27 @@ module _ (number : ℕ) (lucks : List Luck) (w : World) where
   goes some x = store_follows number some (without_down (nodes.Store number) x)
 
   abbrev or_back : Moved → List Luck → Bool → Moved
-  or_back m some b = if b then and_then m (tables_fall (tables_of w number)) else and_then m (goes some)
+  or_back m some b = if b then and_then m (store_falls number) else and_then m (goes some)
 
   store_starts_same : (store_starts number lucks w).failed ≡ false → store_starts number lucks w ≡ store_starts number [] w
   store_starts_same e = go m.failed refl e
     where
       m : Moved
-      m = tables_start (tables_of w number) lucks w
+      m = and_then (tables_fall (tables_of w number) w) (tables_start (tables_of w number) lucks)
 
       n : Moved
-      n = tables_start (tables_of w number) [] w
+      n = and_then (tables_fall (tables_of w number) w) (tables_start (tables_of w number) [])
+
+      all_same : m.failed ≡ false → m ≡ n
+      all_same e =
+          let fallen : Moved = tables_fall (tables_of w number) w in
+          then_same fallen fallen (tables_start (tables_of w number) lucks) (tables_start (tables_of w number) []) e (λ is. refl) (tables_start_same (tables_of w number) lucks)
 
       go : (b : Bool) → m.failed ≡ b → (λ (x : Moved). x.failed ≡ false) (or_back m (drop (length (tables_of w number)) lucks) b)
           → or_back m (drop (length (tables_of w number)) lucks) b ≡ or_back n (drop (length (tables_of w number)) []) n.failed
-      go true is e = let k = both_false m.failed (tables_fall (tables_of w number) m.world).failed e in absurd cc
+      go true is e = let k = both_false m.failed (store_falls number m.world).failed e in absurd cc
       go false is e =
-          let same : m ≡ n = tables_start_same (tables_of w number) lucks w is in
+          let same : m ≡ n = all_same is in
           then_same m n (goes (drop (length (tables_of w number)) lucks)) (goes []) e (λ k. same)
           (λ x. store_follows_same number (drop (length (tables_of w number)) lucks) (without_down (nodes.Store number) x))
           ∙ (ap (λ (some : List Luck). and_then n (goes some)) (sym (drop_none (length (tables_of w number))))
@@ -335,9 +343,9 @@ to_hosted_same w table move lucks (Some hosted) e = go hosted.store.agenda e
 carried_same : (w : World) (packet : Packet) (shape : Shape) (lucks : List Luck) (to : Node) → is_fault_answer (carried w packet shape lucks to).answer ≡ false
     → carried w packet shape lucks to ≡ carried w packet shape [] to
 carried_same w packet shape lucks (nodes.Store number) e =
-    up_same w (nodes.Store number) (to_hosted w (table_of packet.message) (store.Take packet.from packet.message) lucks (hosted_at w (table_of packet.message)))
-    (to_hosted w (table_of packet.message) (store.Take packet.from packet.message) [] (hosted_at w (table_of packet.message))) e
-    (λ k. to_hosted_same w (table_of packet.message) (store.Take packet.from packet.message) lucks (hosted_at w (table_of packet.message)) k)
+    up_same w (nodes.Store number) (to_hosted w (table_of packet.message) (store.Take packet.from packet.message) lucks (hosted_by w number (table_of packet.message)))
+    (to_hosted w (table_of packet.message) (store.Take packet.from packet.message) [] (hosted_by w number (table_of packet.message))) e
+    (λ k. to_hosted_same w (table_of packet.message) (store.Take packet.from packet.message) lucks (hosted_by w number (table_of packet.message)) k)
 carried_same w packet shape lucks (nodes.Client c) e = to_there_same w c packet.message shape lucks (client_at w c) e
 carried_same w packet shape lucks (nodes.Gate gate) e = refl
 
@@ -347,16 +355,18 @@ delivered_same w shape lucks (Some packet) e = carried_same w packet shape lucks
 
 -- ---- rows
 
-row_read_same : (w : World) (hosted : Hosted) (row : List ℕ) (luck : Luck) → is_fault_answer (row_read w hosted row luck).answer ≡ false
-    → row_read w hosted row luck ≡ row_read w hosted row messages.Done
-row_read_same w hosted row messages.Done e = refl
-row_read_same w hosted row messages.FailedBefore e = absurd cc
-row_read_same w hosted row messages.FailedAfter e = absurd cc
+row_read_same : (w : World) (table : ℕ) (hosted : Hosted) (row : List ℕ) (luck : Luck) → is_fault_answer (row_read w table hosted row luck).answer ≡ false
+    → row_read w table hosted row luck ≡ row_read w table hosted row messages.Done
+row_read_same w table hosted row messages.Done e = refl
+row_read_same w table hosted row messages.FailedBefore e = absurd cc
+row_read_same w table hosted row messages.FailedAfter e = absurd cc
 
-store_shows_same : (w : World) (row : List ℕ) (lucks : List Luck) (o : Option Hosted) → is_fault_answer (store_shows w row lucks o).answer ≡ false → store_shows w row lucks o ≡ store_shows w row [] o
-store_shows_same w row lucks None e = refl
-store_shows_same w row lucks (Some hosted) e =
-    up_same w the_store (row_read w hosted row (first_luck lucks)) (row_read w hosted row messages.Done) e (λ k. row_read_same w hosted row (first_luck lucks) k)
+store_shows_same : (w : World) (table : ℕ) (row : List ℕ) (lucks : List Luck) (o : Option Hosted)
+    → is_fault_answer (store_shows w table row lucks o).answer ≡ false → store_shows w table row lucks o ≡ store_shows w table row [] o
+store_shows_same w table row lucks None e = refl
+store_shows_same w table row lucks (Some hosted) e =
+    up_same w (nodes.Store (owner_of w table)) (row_read w table hosted row (first_luck lucks)) (row_read w table hosted row messages.Done) e
+    (λ k. row_read_same w table hosted row (first_luck lucks) k)
 
 -- ---- what is done to a node
 
@@ -382,7 +392,7 @@ started_or_up_same false w m n same e = refl
 
 started_same : (w : World) (shape : Shape) (lucks : List Luck) (node : Node) → is_fault_answer (started w shape lucks node).answer ≡ false → started w shape lucks node ≡ started w shape [] node
 started_same w shape lucks (nodes.Store number) e =
-    started_or_up_same (is_down w (nodes.Store number)) w (store_starts number lucks w) (store_starts number [] w) (store_starts_same number lucks w) e
+    started_or_up_same (has_store w number && is_down w (nodes.Store number)) w (store_starts number lucks w) (store_starts number [] w) (store_starts_same number lucks w) e
 started_same w shape lucks (nodes.Gate gate) e = refl
 started_same w shape lucks (nodes.Client c) e =
     started_or_up_same (is_down w (nodes.Client c)) w (client_starts c shape lucks w) (client_starts c shape [] w) (client_starts_same c shape lucks w) e
@@ -488,7 +498,7 @@ step_same w (events.ResolveAll c table by) lucks e =
     (λ k. call_there_same w c (client.ResolveAll table by) lucks.shape lucks.calls (client_at w c) k)
 step_same w (events.Link c up) lucks e = refl
 step_same w (events.Deliver packet) lucks e = delivered_same w lucks.shape lucks.calls (slice_get w.packets packet) e
-step_same w (events.StoreShow table row) lucks e = store_shows_same w row lucks.calls (hosted_at w table) e
+step_same w (events.StoreShow table row) lucks e = store_shows_same w table row lucks.calls (hosted_at w table) e
 step_same w (events.History table) lucks e = refl
 step_same w (events.Chunks table) lucks e = refl
 step_same w (events.Hold node) lucks e = refl

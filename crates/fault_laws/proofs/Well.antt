@@ -23,13 +23,16 @@ use Rattle.step_tables.specs.StoreMoves as store
 use Rattle.step_tables.specs.StoreMoves.{StoreMove, StoreTask, StoreDisk}
 use Rattle.step_tables.specs.ClientMoves as client
 use Rattle.step_tables.specs.ClientMoves.{Client, ClientDisk, ClientTask, ClientMove, Shape, client_step, is_cut_off, kept_out}
-use Rattle.world_tables.specs.World.{World, Packet, Hosted, Moved, WorldStep, hosted_at, client_at, owner, the_store, tables_of, has_node, is_down, still, and_then, and_unless, is_fault, failing}
-use Rattle.world_tables.specs.World.{move_hosted, move_table, move_there, move_client, client_works, client_tasks, client_until_idle, client_follows, client_writes, client_starts, tables_fall, without_down, store_falls, table_falls}
+use Rattle.world_tables.specs.World.{World, Packet, Hosted, Moved, WorldStep, hosted_at, client_at, owner_of, hosted_by, has_store, tables_of, has_node, is_down, still, and_then, and_unless}
+use Rattle.world_tables.specs.World.{is_fault, failing}
+use Rattle.world_tables.specs.World.{move_hosted, move_table, move_there, move_client, client_works, client_tasks, client_until_idle, client_follows, client_writes, client_starts}
+use Rattle.world_tables.specs.World.{tables_fall, without_down, store_falls, table_falls}
 use Rattle.world_tables.specs.World.{or_falls, is_at_work, busy_table, write_next, store_works, tasks_of, store_until_idle, store_follows, table_follows, table_starts, tables_start, store_starts}
 use Rattle.world_tables.specs.World.{start_hosted, after_table, declared_late, answering, refused, unless_down, gets_tasks, client_follows_from, call_there, call, take_read, take_at}
 use Rattle.world_tables.specs.World.{to_hosted, row_shown}
 use Rattle.world_tables.specs.World.{to_there, carried, delivered, row_read, store_shows, started, worked, all_worked, table_step, step, schema_at, chunk_names, history_lines}
-use Rattle.world_tables.specs.World.{Lucks, is_cut, is_resolving, unless_cut, unless_kept, calls, linked, listed, client_falls, first_shape, other_shapes, chosen_of, client_pairs, resolve_by, plan_size, resolve_each, resolve_all}
+use Rattle.world_tables.specs.World.{Lucks, is_cut, is_resolving, unless_cut, unless_kept, calls, linked, listed, client_falls, first_shape, other_shapes, chosen_of, client_pairs}
+use Rattle.world_tables.specs.World.{resolve_by, plan_size, resolve_each, resolve_all}
 use Rattle.world_tables.specs.Faults.{fails_new, fails_joined, fails_cut, fails_write, fails_crash, is_fault_answer, is_device_fault, quiet_calls, quiet_lucks}
 use Rattle.world_tables.specs.World as moves
 
@@ -262,6 +265,11 @@ store_done_fine d None = refl
 store_done_fine d (Some []) = refl
 store_done_fine d (Some (task ∷ tasks)) = refl
 
+crash_fine : (d : StoreDisk) (agenda : Option (List StoreTask)) → is_fault (store.crashed d agenda messages.FailedBefore).answer ≡ false
+crash_fine d None = refl
+crash_fine d (Some []) = refl
+crash_fine d (Some (task ∷ tasks)) = refl
+
 started_fine : (number table : ℕ) (d : StoreDisk) (agenda : Option (List StoreTask)) → is_fault (store.started number table d agenda).answer ≡ false
 started_fine number table d agenda = grind (arith, nat_tests)
 
@@ -287,7 +295,7 @@ table_start_well table w = go (hosted_at w table)
   where
     go : (o : Option Hosted) → IsWell (move_hosted w table store.Start o)
     go None = refl
-    go (Some hosted) = started_fine owner table hosted.store.disk hosted.store.agenda
+    go (Some hosted) = started_fine (owner_of w table) table hosted.store.disk hosted.store.agenda
 
 write_next_well : (number : ℕ) (busy : Option ℕ) (w : World) → IsWell (write_next number messages.Done busy w)
 write_next_well number None w = refl
@@ -310,8 +318,8 @@ store_follows_well number w = go (has_node w.holds (nodes.Store number))
 table_follows_well : (table : ℕ) (w : World) → IsWell (table_follows table [] w)
 table_follows_well table w = go (is_at_work w table)
   where
-    go : (b : Bool) → IsWell (if b then store_follows owner [] w else still w)
-    go true = store_follows_well owner w
+    go : (b : Bool) → IsWell (if b then store_follows (owner_of w table) [] w else still w)
+    go true = store_follows_well (owner_of w table) w
     go false = refl
 
 table_starts_well : (table : ℕ) (w : World) → IsWell (table_starts table messages.Done w)
@@ -323,17 +331,26 @@ table_starts_well table w = go (hosted_at w table)
 
     go : (o : Option Hosted) → IsWell (start_hosted w table o)
     go None = refl
-    go (Some hosted) = made hosted.made (after_table w table (record hosted { made = true }) (declared_late table)) refl
+    go (Some hosted) = made hosted.made (after_table w table (record hosted { made = true }) (declared_late (owner_of w table) table)) refl
 
 tables_start_well : (tables : List ℕ) (w : World) → IsWell (tables_start tables [] w)
 tables_start_well [] w = refl
 tables_start_well (table ∷ tables) w = unless_well (table_starts table messages.Done w) (tables_start tables []) (table_starts_well table w) (tables_start_well tables)
 
+tables_fall_well : (tables : List ℕ) (w : World) → IsWell (tables_fall tables w)
+tables_fall_well [] w = refl
+tables_fall_well (table ∷ tables) w = then_well (table_falls table w) (tables_fall tables) (go (hosted_at w table)) (tables_fall_well tables)
+  where
+    go : (o : Option Hosted) → IsWell (move_hosted w table (store.Crash messages.FailedBefore) o)
+    go None = refl
+    go (Some hosted) = crash_fine hosted.store.disk hosted.store.agenda
+
 store_starts_well : (number : ℕ) (w : World) → IsWell (store_starts number [] w)
 store_starts_well number w =
-    let m : Moved = tables_start (tables_of w number) [] w in
-    let well : IsWell m = tables_start_well (tables_of w number) w in
-    ap (λ (b : Bool). (λ (x : Moved). x.failed) (if b then and_then m (tables_fall (tables_of w number))
+    let m : Moved = and_then (tables_fall (tables_of w number) w) (tables_start (tables_of w number) []) in
+    let well : IsWell m =
+    then_well (tables_fall (tables_of w number) w) (tables_start (tables_of w number) []) (tables_fall_well (tables_of w number) w) (tables_start_well (tables_of w number)) in
+    ap (λ (b : Bool). (λ (x : Moved). x.failed) (if b then and_then m (store_falls number)
     else and_then m (λ x. store_follows number (drop (length (tables_of w number)) []) (without_down (nodes.Store number) x)))) well
     ∙ then_well m (λ x. store_follows number (drop (length (tables_of w number)) []) (without_down (nodes.Store number) x)) well
     (λ x. ap (λ (some : List Luck). (store_follows number some (without_down (nodes.Store number) x)).failed) (drop_none (length (tables_of w number)))
@@ -357,8 +374,8 @@ to_hosted_fine w table from m (Some hosted) = go hosted.store.agenda
 
 carried_fine : (w : World) (packet : Packet) (shape : Shape) (to : Node) → IsFine (carried w packet shape [] to)
 carried_fine w packet shape (nodes.Store number) =
-    up_fine w (nodes.Store number) (to_hosted w (table_of packet.message) (store.Take packet.from packet.message) [] (hosted_at w (table_of packet.message)))
-    (to_hosted_fine w (table_of packet.message) packet.from packet.message (hosted_at w (table_of packet.message)))
+    up_fine w (nodes.Store number) (to_hosted w (table_of packet.message) (store.Take packet.from packet.message) [] (hosted_by w number (table_of packet.message)))
+    (to_hosted_fine w (table_of packet.message) packet.from packet.message (hosted_by w number (table_of packet.message)))
 carried_fine w packet shape (nodes.Client c) = to_there_fine w c packet.message shape (client_at w c)
 carried_fine w packet shape (nodes.Gate gate) = refl
 
@@ -370,9 +387,9 @@ shown_fine : (o : Option items.Stored) → is_fault (row_shown o) ≡ false
 shown_fine None = refl
 shown_fine (Some item) = refl
 
-store_shows_fine : (w : World) (row : List ℕ) (o : Option Hosted) → IsFine (store_shows w row [] o)
-store_shows_fine w row None = refl
-store_shows_fine w row (Some hosted) = up_fine w the_store (row_read w hosted row messages.Done) (shown_fine (current_of hosted.store.disk.items row))
+store_shows_fine : (w : World) (table : ℕ) (row : List ℕ) (o : Option Hosted) → IsFine (store_shows w table row [] o)
+store_shows_fine w table row None = refl
+store_shows_fine w table row (Some hosted) = up_fine w (nodes.Store (owner_of w table)) (row_read w table hosted row messages.Done) (shown_fine (current_of hosted.store.disk.items row))
 
 names_fine : (names : List ChunkName) → is_fault (moves.names_answer names) ≡ false
 names_fine [] = refl
@@ -415,7 +432,7 @@ fine_step w (events.Link c up) lucks = go (client_at w c)
     go None = refl
     go (Some node) = up_fine w (nodes.Client c) _ refl
 fine_step w (events.Deliver packet) lucks = delivered_fine w lucks.shape (slice_get w.packets packet)
-fine_step w (events.StoreShow table row) lucks = store_shows_fine w row (hosted_at w table)
+fine_step w (events.StoreShow table row) lucks = store_shows_fine w table row (hosted_at w table)
 fine_step w (events.History table) lucks = go (hosted_at w table)
   where
     go : (o : Option Hosted) → IsFine (history_lines w table o)
@@ -425,7 +442,7 @@ fine_step w (events.Chunks table) lucks = go (hosted_at w table)
   where
     go : (o : Option Hosted) → IsFine (chunk_names w table o)
     go None = refl
-    go (Some hosted) = up_fine w the_store _ (names_fine (moves.names_on (moves.chunk_in (schema_at w table)) hosted.store.disk))
+    go (Some hosted) = up_fine w (nodes.Store (owner_of w table)) _ (names_fine (moves.names_on (moves.chunk_in (schema_at w table)) hosted.store.disk))
 fine_step w (events.Hold node) lucks = up_fine w node _ refl
 fine_step w (events.Free node) lucks = up_fine w node _ refl
 fine_step w (events.Work node) lucks = up_fine w node (worked w [] node) (go node)
@@ -465,6 +482,6 @@ fine_step w (events.Start node) lucks = go node
     up false m well = refl
 
     go : (n : Node) → IsFine (started w lucks.shape [] n)
-    go (nodes.Store number) = up (is_down w (nodes.Store number)) (store_starts number [] w) (store_starts_well number w)
+    go (nodes.Store number) = up (has_store w number && is_down w (nodes.Store number)) (store_starts number [] w) (store_starts_well number w)
     go (nodes.Gate gate) = refl
     go (nodes.Client c) = up (is_down w (nodes.Client c)) (client_starts c lucks.shape [] w) (client_starts_well c lucks.shape w)

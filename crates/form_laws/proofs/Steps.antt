@@ -20,10 +20,11 @@ use Rattle.step_tables.specs.StoreMoves.{StoreTask}
 use Rattle.step_tables.specs.ClientMoves as client
 use Rattle.step_tables.specs.ClientMoves.{Client, ClientMove, Shape, client_step, is_cut_off, kept_out}
 use Rattle.step_tables.proofs.Lists.{among_last}
-use Rattle.world_tables.specs.World.{World, Packet, Hosted, Moved, WorldStep, Lucks, schema_at, scheme_in, chunk_in, hosted_at, client_at, the_store, is_down, is_cut, is_resolving, still}
+use Rattle.world_tables.specs.World.{World, Packet, Hosted, Moved, WorldStep, Lucks, schema_at, scheme_in, chunk_in, hosted_at, client_at, owner_of, has_store, hosted_by, is_down, is_cut}
+use Rattle.world_tables.specs.World.{is_resolving, still}
 use Rattle.world_tables.specs.World.{move_table, table_follows, first_luck, other_lucks, answering, answered, refused, unless_down, unless_cut, unless_kept, calls, call_there, call, listed}
 use Rattle.world_tables.specs.World.{client_pairs, resolve_each, resolve_all, table_step, take_read, take_at, to_hosted, to_there, carried, delivered, row_shown, row_read, store_shows, names_on}
-use Rattle.world_tables.specs.World.{chunk_names, history_lines, owner, failing, and_then, move_client, client_follows_from, client_falls, store_falls, client_tasks, client_writes}
+use Rattle.world_tables.specs.World.{chunk_names, history_lines, failing, and_then, move_client, client_follows_from, client_falls, store_falls, client_tasks, client_writes}
 use Rattle.world_tables.specs.World.{client_until_idle, busy_table, write_next, tasks_of, store_until_idle, store_crashes, client_crashes, busy_step, next_write, worked, all_worked, crashed}
 use Rattle.world_tables.specs.World.{store_starts, client_starts, started, linked, step}
 use Rattle.world_tables.specs.World as world
@@ -138,8 +139,8 @@ hosted_forms w table from m lucks (Some hosted) = go hosted.store.agenda
     read : (luck : Luck) → HasForms (take_read w table hosted (store.Take from m) (other_lucks lucks) luck)
     read messages.Done =
         answering_forms (table_step w table hosted (store.Take from m)).answer (and_then (move_table table (store.Take from m) w) (table_follows table (other_lucks lucks))) taken
-    read messages.FailedBefore = fallen_forms (failing (store_falls owner w))
-    read messages.FailedAfter = fallen_forms (failing (store_falls owner w))
+    read messages.FailedBefore = fallen_forms (failing (store_falls (owner_of w table) w))
+    read messages.FailedAfter = fallen_forms (failing (store_falls (owner_of w table) w))
 
     go : (agenda : Option (List StoreTask)) → HasForms (take_at w table hosted (store.Take from m) lucks agenda)
     go None = answering_forms (table_step w table hosted (store.Take from m)).answer (move_table table (store.Take from m) w) taken
@@ -152,7 +153,7 @@ client_take_forms w c m shape lucks (Some node) = call_forms w c (client.Take m)
 
 pub carried_forms : (w : World) (packet : Packet) (shape : Shape) (lucks : List Luck) (to : Node) → HasForms (carried w packet shape lucks to)
 carried_forms w packet shape lucks (nodes.Store number) =
-    up_forms w (nodes.Store number) _ (hosted_forms w (table_of packet.message) packet.from packet.message lucks (hosted_at w (table_of packet.message)))
+    up_forms w (nodes.Store number) _ (hosted_forms w (table_of packet.message) packet.from packet.message lucks (hosted_by w number (table_of packet.message)))
 carried_forms w packet shape lucks (nodes.Client c) = client_take_forms w c packet.message shape lucks (client_at w c)
 carried_forms w packet shape lucks (nodes.Gate gate) = (tt, tt)
 
@@ -174,18 +175,19 @@ row_forms items row values = go (current_of items row) refl
     go None is = tt
     go (Some item) is = values item (among_last (is_of_row row) items item is).0
 
-shows_forms : (w : World) (row : List ℕ) (lucks : List Luck) (o : Option Hosted) → ((hosted : Hosted) → o ≡ Some hosted → AreValued hosted.store.disk.items) → HasForms (store_shows w row lucks o)
-shows_forms w row lucks None values = (tt, tt)
-shows_forms w row lucks (Some hosted) values = up_forms w the_store _ (read (first_luck lucks))
+shows_forms : (w : World) (table : ℕ) (row : List ℕ) (lucks : List Luck) (o : Option Hosted)
+    → ((hosted : Hosted) → o ≡ Some hosted → AreValued hosted.store.disk.items) → HasForms (store_shows w table row lucks o)
+shows_forms w table row lucks None values = (tt, tt)
+shows_forms w table row lucks (Some hosted) values = up_forms w (nodes.Store (owner_of w table)) _ (read (first_luck lucks))
   where
-    read : (luck : Luck) → HasForms (row_read w hosted row luck)
+    read : (luck : Luck) → HasForms (row_read w table hosted row luck)
     read messages.Done = answering_forms (row_shown (current_of hosted.store.disk.items row)) (still w) (row_forms hosted.store.disk.items row (values hosted refl))
-    read messages.FailedBefore = fallen_forms (failing (store_falls owner w))
-    read messages.FailedAfter = fallen_forms (failing (store_falls owner w))
+    read messages.FailedBefore = fallen_forms (failing (store_falls (owner_of w table) w))
+    read messages.FailedAfter = fallen_forms (failing (store_falls (owner_of w table) w))
 
 chunks_forms : (w : World) (table : ℕ) (o : Option Hosted) → HasForms (chunk_names w table o)
 chunks_forms w table None = (tt, tt)
-chunks_forms w table (Some hosted) = up_forms w the_store _ (answering_forms _ (still w) (names_form (names_on (chunk_in (schema_at w table)) hosted.store.disk)))
+chunks_forms w table (Some hosted) = up_forms w (nodes.Store (owner_of w table)) _ (answering_forms _ (still w) (names_form (names_on (chunk_in (schema_at w table)) hosted.store.disk)))
 
 entries_forms : (table : ℕ) (history : List Entry) → AllByRecursion HasLineForm (map (EntryLine table) history)
 entries_forms table [] = tt
@@ -222,7 +224,7 @@ started_forms w shape lucks node = at node
     up false m = (tt, tt)
 
     at : (n : Node) → HasForms (started w shape lucks n)
-    at (nodes.Store number) = up (is_down w (nodes.Store number)) (store_starts number lucks w)
+    at (nodes.Store number) = up (has_store w number && is_down w (nodes.Store number)) (store_starts number lucks w)
     at (nodes.Client c) = up (is_down w (nodes.Client c)) (client_starts c shape lucks w)
     at (nodes.Gate gate) = (tt, tt)
 
@@ -261,7 +263,7 @@ step_forms w values (events.ResolveAll c table by) lucks =
     (call_forms w c (client.ResolveAll table by) lucks.shape lucks.calls (λ s. number_form _ (all_form c lucks.shape s.disk s.agenda table by)) (client_at w c))
 step_forms w values (events.Link c up) lucks = linked_forms w c up (client_at w c)
 step_forms w values (events.Deliver packet) lucks = delivered_forms w lucks.shape lucks.calls (slice_get w.packets packet)
-step_forms w values (events.StoreShow table row) lucks = shows_forms w row lucks.calls (hosted_at w table) (values table)
+step_forms w values (events.StoreShow table row) lucks = shows_forms w table row lucks.calls (hosted_at w table) (values table)
 step_forms w values (events.History table) lucks = history_forms w table (hosted_at w table)
 step_forms w values (events.Chunks table) lucks = chunks_forms w table (hosted_at w table)
 step_forms w values (events.Hold node) lucks = up_forms w node _ (tt, tt)

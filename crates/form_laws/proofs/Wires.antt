@@ -11,7 +11,7 @@ use Rattle.step_tables.specs.Messages.{Luck, Message}
 use Rattle.step_tables.specs.Messages as messages
 use Rattle.step_tables.specs.StoreMoves.{StoreTask}
 use Rattle.step_tables.specs.ClientMoves.{Client, ClientTask, TableDisk, table_at, seen}
-use Rattle.world_tables.specs.World.{Hosted, Lucks, hosted_at, client_at, is_down, is_cut, is_client_down, first_luck, step}
+use Rattle.world_tables.specs.World.{Hosted, Lucks, hosted_by, client_at, is_down, is_cut, is_client_down, first_luck, step}
 use Rattle.world_tables.specs.Ready.{is_client_ready}
 use Rattle.part_tables.specs.StoreParts as at_store
 use Rattle.part_tables.specs.StoreParts.{StoreTaken}
@@ -109,9 +109,9 @@ node_forms v c p lucks (Some node) = go node.agenda
 brought_forms : (v : Wire) (p : PartPacket) (lucks : Lucks) (to : Node) → HaveForms (brought v p lucks to)
 brought_forms v p lucks (nodes.Store number) = go (is_down v.world (nodes.Store number))
   where
-    go : (b : Bool) → HaveForms (if b then untaken v p lucks else by_hosted v p lucks (hosted_at v.world (part_table p.part)))
+    go : (b : Bool) → HaveForms (if b then untaken v p lucks else by_hosted v p lucks (hosted_by v.world number (part_table p.part)))
     go true = untaken_forms v p lucks
-    go false = hosted_forms v p lucks (hosted_at v.world (part_table p.part))
+    go false = hosted_forms v p lucks (hosted_by v.world number (part_table p.part))
 brought_forms v p lucks (nodes.Client c) = go (is_cut v.world c)
   where
     go : (b : Bool) → HaveForms (if b then untaken v p lucks else by_client v c p lucks (client_at v.world c))

@@ -6,7 +6,7 @@ use Rattle.step_tables.specs.Messages.{Luck}
 use Rattle.step_tables.specs.Messages as messages
 use Rattle.step_tables.specs.StoreMoves as store
 use Rattle.step_tables.specs.StoreMoves.{StoreMove, StoreStep}
-use Rattle.world_tables.specs.World.{World, Hosted, Moved, owner, hosted_at, tables_of, has_node, still, and_then, and_unless}
+use Rattle.world_tables.specs.World.{World, Hosted, Moved, owner_of, hosted_at, tables_of, has_node, still, and_then, and_unless}
 use Rattle.world_tables.specs.World.{history_on, after_table, table_step, move_hosted, move_table, first_luck, other_lucks}
 use Rattle.world_tables.specs.World.{tables_fall, without_down, store_falls, is_at_work, busy_table, write_next, store_works, tasks_of, store_until_idle}
 use Rattle.world_tables.specs.World.{store_follows, table_follows}
@@ -24,7 +24,7 @@ module _ (P : ℕ → Hosted → Type 0)
     (works : (w : World) (table : ℕ) (hosted : Hosted) (luck : Luck) → P table hosted → P table (behind_step hosted (table_step w table hosted (store.Work luck))))
     (crashes : (w : World) (table : ℕ) (hosted : Hosted) (luck : Luck) → P table hosted → P table (behind_step hosted (table_step w table hosted (store.Crash luck))))
     (starts : (w : World) (table : ℕ) (hosted : Hosted) → hosted.made ≡ true → P table hosted → P table (behind_step hosted (table_step w table hosted store.Start)))
-    (late : (table : ℕ) (hosted : Hosted) → hosted.made ≡ false → P table hosted → P table (behind_step (record hosted { made = true }) (declared_late table))) where
+    (late : (w : World) (table : ℕ) (hosted : Hosted) → hosted.made ≡ false → P table hosted → P table (behind_step (record hosted { made = true }) (declared_late (owner_of w table) table))) where
   pub put_all : (w : World) (table : ℕ) (new : Hosted) → All P w → P table new → (s : StoreStep) → (hosted : Hosted) → behind_step hosted s ≡ new → All P (after_table w table hosted s).world
   put_all w table new all p s hosted is q found at = ⊎_elim
       (λ e. let both : Some (behind_step hosted s) ≡ Some found = sym e.1 ∙ at in let same : behind_step hosted s ≡ found = cc in subst (P q) (sym is ∙ same) (subst (λ (n : ℕ). P n new) (sym e.0) p))
@@ -82,8 +82,8 @@ module _ (P : ℕ → Hosted → Type 0)
   pub table_follows_all : (table : ℕ) (lucks : List Luck) (w : World) → All P w → All P (table_follows table lucks w).world
   table_follows_all table lucks w all = go (is_at_work w table)
     where
-      go : (busy : Bool) → All P (if busy then store_follows owner lucks w else still w).world
-      go true = follows_all owner lucks w all
+      go : (busy : Bool) → All P (if busy then store_follows (owner_of w table) lucks w else still w).world
+      go true = follows_all (owner_of w table) lucks w all
       go false = all
 
   pub crashes_all : (number calls : ℕ) (lucks : List Luck) (w : World) → All P w → All P (store_crashes number calls lucks w).world
@@ -106,10 +106,10 @@ module _ (P : ℕ → Hosted → Type 0)
       go None at = all
       go (Some hosted) at = made hosted.made refl
         where
-          made : (b : Bool) → hosted.made ≡ b → All P (if b then move_table table store.Start w else after_table w table (record hosted { made = true }) (declared_late table)).world
+          made : (b : Bool) → hosted.made ≡ b → All P (if b then move_table table store.Start w else after_table w table (record hosted { made = true }) (declared_late (owner_of w table) table)).world
           made true is = subst (λ (o : Option Hosted). All P (move_hosted w table store.Start o).world) (sym at)
               (put_all w table _ all (starts w table hosted is (all table hosted at)) (table_step w table hosted store.Start) hosted refl)
-          made false is = put_all w table _ all (late table hosted is (all table hosted at)) (declared_late table) (record hosted { made = true }) refl
+          made false is = put_all w table _ all (late w table hosted is (all table hosted at)) (declared_late (owner_of w table) table) (record hosted { made = true }) refl
 
   pub tables_start_all : (tables : List ℕ) (lucks : List Luck) (w : World) → All P w → All P (tables_start tables lucks w).world
   tables_start_all [] lucks w all = all
@@ -128,6 +128,10 @@ module _ (P : ℕ → Hosted → Type 0)
       go messages.FailedAfter more = all
       go messages.Done more = on m.failed more
 
+  -- the tables of a Store are started behind their fall
+  pub begins_all : (number : ℕ) (lucks : List Luck) (w : World) → All P w → All P (and_then (tables_fall (tables_of w number) w) (tables_start (tables_of w number) lucks)).world
+  begins_all number lucks w all = tables_start_all (tables_of w number) lucks (tables_fall (tables_of w number) w).world (tables_fall_all (tables_of w number) w all)
+
   pub starts_all : (number : ℕ) (lucks : List Luck) (w : World) → All P w → All P (store_starts number lucks w).world
   starts_all number lucks w all = go m.failed
     where
@@ -135,11 +139,11 @@ module _ (P : ℕ → Hosted → Type 0)
       tables = tables_of w number
 
       m : Moved
-      m = tables_start tables lucks w
+      m = and_then (tables_fall tables w) (tables_start tables lucks)
 
       first : All P m.world
-      first = tables_start_all tables lucks w all
+      first = begins_all number lucks w all
 
-      go : (b : Bool) → All P (if b then and_then m (tables_fall tables) else and_then m (λ x. store_follows number (drop (length tables) lucks) (without_down (nodes.Store number) x))).world
-      go true = tables_fall_all tables m.world first
+      go : (b : Bool) → All P (if b then and_then m (store_falls number) else and_then m (λ x. store_follows number (drop (length tables) lucks) (without_down (nodes.Store number) x))).world
+      go true = falls_all number m.world first
       go false = follows_all number (drop (length tables) lucks) (without_down (nodes.Store number) m.world) first

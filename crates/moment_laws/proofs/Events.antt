@@ -1,6 +1,6 @@
 -- What is kept of every table along the moves of each event.
 use Rattle.std.proofs.Common.{◌≡◌, ⊎_elim, ℕ, Bool, true, false, List, [], ◌∷◌, length, Option, Some, None, refl, sym, ◌∙◌, subst}
-use Rattle.std.specs.Prelude.{◌+◌, ◌&&◌, not, drop, slice_get, if◌then◌else◌}
+use Rattle.std.specs.Prelude.{◌+◌, ◌==◌, ◌&&◌, drop, slice_get, if◌then◌else◌}
 use Rattle.conflicts.specs.declared.stored.Stored.{Stored}
 use Rattle.stab_base.specs.declared.node.Node.{Node}
 use Rattle.stab_base.specs.declared.node.Node.TheVariants as nodes
@@ -16,7 +16,7 @@ use Rattle.step_tables.specs.StoreMoves as store
 use Rattle.step_tables.specs.StoreMoves.{StoreTask, StoreMove, StoreStep}
 use Rattle.step_tables.specs.ClientMoves as client
 use Rattle.step_tables.specs.ClientMoves.{Client, ClientTask, ClientMove, Shape, client_step, is_cut_off, kept_out}
-use Rattle.world_tables.specs.World.{World, Packet, Hosted, WorldStep, owner, the_store, hosted_at, client_at, tables_of, has_node, is_down, still}
+use Rattle.world_tables.specs.World.{World, Packet, Hosted, WorldStep, owner_of, has_store, hosted_at, client_at, has_node, is_down, still}
 use Rattle.world_tables.specs.World.{table_step, move_table, move_there, move_client, first_luck, other_lucks, client_works, client_tasks, client_until_idle, client_follows, client_writes, client_starts, store_falls, busy_table, tasks_of}
 use Rattle.world_tables.specs.World.{crash_luck, declared_late, store_starts}
 use Rattle.world_tables.specs.World.{answering, answered, refused, unless_down, agenda_of, with_table, declared, joined, gets_tasks}
@@ -31,12 +31,12 @@ use Rattle.moment_laws.proofs.Along as along
 use Rattle.moment_laws.proofs.Along.{behind_step, All}
 
 -- a table that is declared
-abbrev pub new_hosted : Bool → Bool → Hosted
-new_hosted made up = record { store = record { disk = record { items = []; pending = None; left = [] }; agenda = agenda_of up }; history = []; made = made }
+abbrev pub new_hosted : Bool → Hosted
+new_hosted made = record { store = record { disk = record { items = []; pending = None; left = [] }; agenda = agenda_of made }; history = []; made = made }
 
 -- what a table is that this event declares
 abbrev pub Fresh : (ℕ → Hosted → Type 0) → World → Type 0
-Fresh P w = (table : ℕ) → hosted_at w table ≡ None → ((up : Bool) → P table (new_hosted true up)) × P table (new_hosted false false)
+Fresh P w = (table : ℕ) → hosted_at w table ≡ None → (made : Bool) → P table (new_hosted made)
 
 -- a step whose answer is another one
 abbrev with_answer : WorldStep → Option Answer → WorldStep
@@ -46,9 +46,9 @@ module _ (P : ℕ → Hosted → Type 0)
     (works : (w : World) (table : ℕ) (hosted : Hosted) (luck : Luck) → P table hosted → P table (behind_step hosted (table_step w table hosted (store.Work luck))))
     (crashes : (w : World) (table : ℕ) (hosted : Hosted) (luck : Luck) → P table hosted → P table (behind_step hosted (table_step w table hosted (store.Crash luck))))
     (starts : (w : World) (table : ℕ) (hosted : Hosted) → hosted.made ≡ true → P table hosted → P table (behind_step hosted (table_step w table hosted store.Start)))
-    (late : (table : ℕ) (hosted : Hosted) → hosted.made ≡ false → P table hosted → P table (behind_step (record hosted { made = true }) (declared_late table))) where
-  falls : (w : World) → All P w → All P (store_falls owner w).world
-  falls w all = along.falls_all P works crashes starts late owner w all
+    (late : (w : World) (table : ℕ) (hosted : Hosted) → hosted.made ≡ false → P table hosted → P table (behind_step (record hosted { made = true }) (declared_late (owner_of w table) table))) where
+  falls : (number : ℕ) (w : World) → All P w → All P (store_falls number w).world
+  falls number w all = along.falls_all P works crashes starts late number w all
 
   unless_down_all : (w : World) (node : Node) (s : WorldStep) → All P w → All P s.world → All P (unless_down w node s).world
   unless_down_all w node s all then_all = go (is_down w node)
@@ -179,8 +179,8 @@ module _ (P : ℕ → Hosted → Type 0)
   hosted_all w table move lucks all first (Some hosted) = go hosted.store.agenda
     where
       reads : (luck : Luck) → All P (take_read w table hosted move (other_lucks lucks) luck).world
-      reads messages.FailedBefore = falls w all
-      reads messages.FailedAfter = falls w all
+      reads messages.FailedBefore = falls (owner_of w table) w all
+      reads messages.FailedAfter = falls (owner_of w table) w all
       reads messages.Done = along.table_follows_all P works crashes starts late table (other_lucks lucks) (move_table table move w).world first
 
       go : (o : Option (List StoreTask)) → All P (take_at w table hosted move lucks o).world
@@ -190,7 +190,17 @@ module _ (P : ℕ → Hosted → Type 0)
 
   carried_all : (w : World) (p : Packet) (shape : Shape) (lucks : List Luck) → All P w → (to : Node) → All P (taken_by w p to) → All P (carried w p shape lucks to).world
   carried_all w p shape lucks all (nodes.Store number) first =
-      unless_down_all w (nodes.Store number) _ all (hosted_all w (table_of p.message) (store.Take p.from p.message) lucks all first (hosted_at w (table_of p.message)))
+      unless_down_all w (nodes.Store number) _ all (by_owner (owner_of w table == number) first)
+    where
+      table : ℕ
+      table = table_of p.message
+
+      move : StoreMove
+      move = store.Take p.from p.message
+
+      by_owner : (b : Bool) → All P (if b then (move_table table move w).world else w) → All P (to_hosted w table move lucks (if b then hosted_at w table else None)).world
+      by_owner true moved = hosted_all w table move lucks all moved (hosted_at w table)
+      by_owner false still_all = all
   carried_all w p shape lucks all (nodes.Gate gate) first = all
   carried_all w p shape lucks all (nodes.Client c) first = go (client_at w c)
     where
@@ -204,14 +214,14 @@ module _ (P : ℕ → Hosted → Type 0)
 
   -- ---- questions and declarations
 
-  shows_all : (w : World) (row : List ℕ) (lucks : List Luck) → All P w → (o : Option Hosted) → All P (store_shows w row lucks o).world
-  shows_all w row lucks all None = all
-  shows_all w row lucks all (Some hosted) = unless_down_all w the_store _ all (read (first_luck lucks))
+  shows_all : (w : World) (table : ℕ) (row : List ℕ) (lucks : List Luck) → All P w → (o : Option Hosted) → All P (store_shows w table row lucks o).world
+  shows_all w table row lucks all None = all
+  shows_all w table row lucks all (Some hosted) = unless_down_all w (nodes.Store (owner_of w table)) _ all (read (first_luck lucks))
     where
-      read : (luck : Luck) → All P (row_read w hosted row luck).world
+      read : (luck : Luck) → All P (row_read w table hosted row luck).world
       read messages.Done = all
-      read messages.FailedBefore = falls w all
-      read messages.FailedAfter = falls w all
+      read messages.FailedBefore = falls (owner_of w table) w all
+      read messages.FailedAfter = falls (owner_of w table) w all
 
   history_all : (w : World) (table : ℕ) → All P w → (o : Option Hosted) → All P (history_lines w table o).world
   history_all w table all None = all
@@ -219,19 +229,19 @@ module _ (P : ℕ → Hosted → Type 0)
 
   chunks_all : (w : World) (table : ℕ) → All P w → (o : Option Hosted) → All P (chunk_names w table o).world
   chunks_all w table all None = all
-  chunks_all w table all (Some hosted) = unless_down_all w the_store _ all all
+  chunks_all w table all (Some hosted) = unless_down_all w (nodes.Store (owner_of w table)) _ all all
 
-  with_all : (w : World) (table : ℕ) (schema : Schema) (made up : Bool) → All P w → P table (new_hosted made up) → All P (with_table w table schema made up)
-  with_all w table schema made up all p q found at = ⊎_elim
-      (λ e. let both : Some (new_hosted made up) ≡ Some found = sym e.1 ∙ at in let same : new_hosted made up ≡ found = cc in
-      subst (P q) same (subst (λ (n : ℕ). P n (new_hosted made up)) (sym e.0) p))
-      (λ e. all q found (sym e.1 ∙ at)) (look_cases w.tables table (new_hosted made up) q)
+  with_all : (w : World) (table : ℕ) (schema : Schema) (made : Bool) → All P w → P table (new_hosted made) → All P (with_table w table schema made)
+  with_all w table schema made all p q found at = ⊎_elim
+      (λ e. let both : Some (new_hosted made) ≡ Some found = sym e.1 ∙ at in let same : new_hosted made ≡ found = cc in
+      subst (P q) same (subst (λ (n : ℕ). P n (new_hosted made)) (sym e.0) p))
+      (λ e. all q found (sym e.1 ∙ at)) (look_cases w.tables table (new_hosted made) q)
 
   declared_all : (w : World) (table : ℕ) (schema : Schema) (luck : Luck) → All P w → Fresh P w → (o : Option Hosted) → hosted_at w table ≡ o → All P (declared w table schema luck o)
   declared_all w table schema luck all f (Some hosted) at = all
-  declared_all w table schema messages.Done all f None at = with_all w table schema true (not (is_down w the_store)) all ((f table at).0 (not (is_down w the_store)))
-  declared_all w table schema messages.FailedBefore all f None at = falls (with_table w table schema false false) (with_all w table schema false false all (f table at).1)
-  declared_all w table schema messages.FailedAfter all f None at = falls (with_table w table schema false false) (with_all w table schema false false all (f table at).1)
+  declared_all w table schema messages.Done all f None at = with_all w table schema true all (f table at true)
+  declared_all w table schema messages.FailedBefore all f None at = with_all w table schema false all (f table at false)
+  declared_all w table schema messages.FailedAfter all f None at = with_all w table schema false all (f table at false)
 
   joined_all : (w : World) (c : ℕ) (tables : List ℕ) (luck : Luck) → All P w → (o : Option Client) → All P (joined w c tables luck o)
   joined_all w c tables luck all None = all
@@ -263,7 +273,7 @@ module _ (P : ℕ → Hosted → Type 0)
   crashed_all w calls lucks all (nodes.Gate gate) = all
 
   started_all : (w : World) (shape : Shape) (lucks : List Luck) → All P w → (node : Node) → All P (started w shape lucks node).world
-  started_all w shape lucks all (nodes.Store number) = go (is_down w (nodes.Store number))
+  started_all w shape lucks all (nodes.Store number) = go (has_store w number && is_down w (nodes.Store number))
     where
       go : (b : Bool) → All P (if b then answering facts.Done (store_starts number lucks w) else answered w facts.Done).world
       go true = along.starts_all P works crashes starts late number lucks w all
@@ -303,7 +313,7 @@ module _ (P : ℕ → Hosted → Type 0)
       resolve_all_all c table by w all lucks.shapes (other_lucks lucks.calls) (call w c (client.ResolveAll table by) lucks.shape lucks.calls)
       (call_all w c (client.ResolveAll table by) lucks.shape lucks.calls all (client_at w c))
   step_all w (events.Deliver n) lucks all first f = delivered_all w lucks.shape lucks.calls all (slice_get w.packets n) first
-  step_all w (events.StoreShow table row) lucks all first f = shows_all w row lucks.calls all (hosted_at w table)
+  step_all w (events.StoreShow table row) lucks all first f = shows_all w table row lucks.calls all (hosted_at w table)
   step_all w (events.History table) lucks all first f = history_all w table all (hosted_at w table)
   step_all w (events.Chunks table) lucks all first f = chunks_all w table all (hosted_at w table)
   step_all w (events.Hold node) lucks all first f = unless_down_all w node _ all all
@@ -314,7 +324,7 @@ module _ (P : ℕ → Hosted → Type 0)
   step_all w (events.Start node) lucks all first f = started_all w lucks.shape lucks.calls all node
 
   started_at_all : (w : World) (lucks : List Luck) (node : Node) → All P w → All P (started_at w lucks node)
-  started_at_all w lucks (nodes.Store number) all = along.tables_start_all P works crashes starts late (tables_of w number) lucks w all
+  started_at_all w lucks (nodes.Store number) all = along.begins_all P works crashes starts late number lucks w all
   started_at_all w lucks (nodes.Client c) all = all
   started_at_all w lucks (nodes.Gate gate) all = all
 

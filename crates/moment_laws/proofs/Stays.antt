@@ -1,6 +1,6 @@
 -- At each event of a run a table's items stay with its history.
 use Rattle.std.proofs.Common.{◌≡◌, ◌⊎◌, inl, inr, ⊎_elim, ℕ, zero, suc, Bool, true, false, List, [], ◌∷◌, ◌++◌, Option, Some, None, refl, sym, ◌∙◌, ap, subst, arith, append-nil, true≢false}
-use Rattle.std.specs.Prelude.{◌==◌, slice_get}
+use Rattle.std.specs.Prelude.{◌==◌, slice_get, if◌then◌else◌}
 use Rattle.std.proofs.lemmas.Bool.Decides.{nat_tests}
 use Rattle.stab_base.specs.declared.node.Node.{Node}
 use Rattle.stab_base.specs.declared.node.Node.TheVariants as nodes
@@ -11,7 +11,7 @@ use Rattle.step_tables.specs.Messages.{Luck, Message, table_of}
 use Rattle.step_tables.specs.Store.{Stored}
 use Rattle.step_tables.specs.StoreMoves as store
 use Rattle.world_tables.specs.Turns.{Happening, world_from}
-use Rattle.world_tables.specs.World.{Lucks, World, Packet, Hosted, start, owner, schema_at, scheme_in, chunk_in, hosted_at, table_step, move_table, declared_late, step}
+use Rattle.world_tables.specs.World.{Lucks, World, Packet, Hosted, start, owner_of, schema_at, scheme_in, chunk_in, hosted_at, table_step, move_table, declared_late, step}
 use Rattle.world_tables.specs.Passed.{items_behind, entries_of, IsBetween, taken_by, taken_from, taken_part, first_part}
 use Rattle.moment_laws.proofs.Kept.{IsKeptTable, Near, IsWithinTable}
 use Rattle.moment_laws.proofs.Landing.{near_here}
@@ -33,19 +33,17 @@ kept_crashes w table x luck k = let n = near_here x.history x.store.disk x.store
 kept_starts : (w : World) (table : ℕ) (x : Hosted) → x.made ≡ true → KeptAt table x → KeptAt table (behind_step x (table_step w table x store.Start))
 kept_starts w table x made k =
     let n = near_here x.history x.store.disk x.store.agenda k.at in
-    (started_keeps owner table x.history x.store.disk x.made x.history n.0 made x.store.agenda k n.1).0
+    (started_keeps (owner_of w table) table x.history x.store.disk x.made x.history n.0 made x.store.agenda k n.1).0
 
-kept_late : (table : ℕ) (x : Hosted) → x.made ≡ false → KeptAt table x → KeptAt table (behind_step (record x { made = true }) (declared_late table))
-kept_late table x made k = record { counted = tt; at = (sym (k.unmade made).0, (None, refl)); unmade = λ not_made. absurd (true≢false not_made) }
+kept_late : (w : World) (table : ℕ) (x : Hosted) → x.made ≡ false → KeptAt table x → KeptAt table (behind_step (record x { made = true }) (declared_late (owner_of w table) table))
+kept_late w table x made k = record { counted = tt; at = (sym (k.unmade made).0, (None, refl)); unmade = λ not_made. absurd (true≢false not_made) }
 
-kept_new : (made up : Bool) → (made ≡ true) ⊎ (up ≡ false) → IsKeptTable (new_hosted made up)
-kept_new true true f = record { counted = tt; at = (refl, (None, refl)); unmade = λ not_made. absurd (true≢false not_made) }
-kept_new true false f = record { counted = tt; at = inl refl; unmade = λ not_made. absurd (true≢false not_made) }
-kept_new false false f = record { counted = tt; at = inl refl; unmade = λ not_made. (refl, refl, refl) }
-kept_new false true f = absurd (⊎_elim (λ e. true≢false (sym e)) (λ e. true≢false e) f)
+kept_new : (made : Bool) → IsKeptTable (new_hosted made)
+kept_new true = record { counted = tt; at = (refl, (None, refl)); unmade = λ not_made. absurd (true≢false not_made) }
+kept_new false = record { counted = tt; at = inl refl; unmade = λ not_made. (refl, refl, refl) }
 
 kept_fresh : (w : World) → Fresh KeptAt w
-kept_fresh w table none = ((λ up. kept_new true up (inl refl)), kept_new false false (inr refl))
+kept_fresh w table none made = kept_new made
 
 takes : (w : World) (table : ℕ) (from : Node) (m : Message) (x : Hosted) → IsKeptTable x
     → Takes x.history x.store.disk x.store.agenda x.made (table_step w table x (store.Take from m))
@@ -56,8 +54,12 @@ kept_taken_from w None all = all
 kept_taken_from w (Some p) all = go p.to
   where
     go : (to : Node) → All KeptAt (taken_by w p to)
-    go (nodes.Store number) = move_all KeptAt kept_works kept_crashes kept_starts kept_late w (table_of p.message) (store.Take p.from p.message)
-        (λ x at k. (takes w (table_of p.message) p.from p.message x k).kept) all
+    go (nodes.Store number) = by_owner (owner_of w (table_of p.message) == number)
+      where
+        by_owner : (b : Bool) → All KeptAt (if b then (move_table (table_of p.message) (store.Take p.from p.message) w).world else w)
+        by_owner true = move_all KeptAt kept_works kept_crashes kept_starts kept_late w (table_of p.message) (store.Take p.from p.message)
+            (λ x at k. (takes w (table_of p.message) p.from p.message x k).kept) all
+        by_owner false = all
     go (nodes.Client c) = all
     go (nodes.Gate gate) = all
 
@@ -88,12 +90,12 @@ module _ (q : ℕ) (near : List Entry) (o : Option Stored) where
   near_crashes w table x luck k = (kept_crashes w table x luck k.0, λ is. (crashed_keeps x.history x.store.disk x.made near o x.store.agenda luck k.0 (k.1 is)).1)
 
   near_starts : (w : World) (table : ℕ) (x : Hosted) → x.made ≡ true → NearAt table x → NearAt table (behind_step x (table_step w table x store.Start))
-  near_starts w table x made k = (kept_starts w table x made k.0, λ is. (started_keeps owner table x.history x.store.disk x.made near o made x.store.agenda k.0 (k.1 is)).1)
+  near_starts w table x made k = (kept_starts w table x made k.0, λ is. (started_keeps (owner_of w table) table x.history x.store.disk x.made near o made x.store.agenda k.0 (k.1 is)).1)
 
-  near_late : (table : ℕ) (x : Hosted) → x.made ≡ false → NearAt table x → NearAt table (behind_step (record x { made = true }) (declared_late table))
-  near_late table x made k = (kept_late table x made k.0, λ is. record { told = (k.1 is).told; items = λ j. none j ((k.1 is).items 0) })
+  near_late : (w : World) (table : ℕ) (x : Hosted) → x.made ≡ false → NearAt table x → NearAt table (behind_step (record x { made = true }) (declared_late (owner_of w table) table))
+  near_late w table x made k = (kept_late w table x made k.0, λ is. record { told = (k.1 is).told; items = λ j. none j ((k.1 is).items 0) })
     where
-      none : (j : ℕ) → Near near o (entries_of x.store.disk.items) → Near near o (entries_of (items_behind (behind_step (record x { made = true }) (declared_late table)) j))
+      none : (j : ℕ) → Near near o (entries_of x.store.disk.items) → Near near o (entries_of (items_behind (behind_step (record x { made = true }) (declared_late (owner_of w table) table)) j))
       none zero n = subst (λ (items : List Stored). Near near o (entries_of items)) (k.0.unmade made).1 n
       none (suc j) n = subst (λ (items : List Stored). Near near o (entries_of items)) (k.0.unmade made).1 n
 
@@ -106,7 +108,7 @@ module _ (q : ℕ) (near : List Entry) (o : Option Stored) where
 
   -- no table is declared again
   near_fresh : (w : World) (x : Hosted) → hosted_at w q ≡ Some x → Fresh NearAt w
-  near_fresh w x there table none = let f = kept_fresh w table none in ((λ up. (f.0 up, λ is. absurd (apart is))), (f.1, λ is. absurd (apart is)))
+  near_fresh w x there table none = λ made. (kept_fresh w table none made, λ is. absurd (apart is))
     where
       apart : table ≡ q → ⊥
       apart is = let both : None ≡ Some x = sym none ∙ (ap (hosted_at w) is ∙ there) in cc
@@ -144,15 +146,20 @@ module _ (q : ℕ) (w : World) (x : Hosted) (there : hosted_at w q ≡ Some x) (
   lands_by p (nodes.Gate gate) = let n = near_here x.history x.store.disk x.store.agenda (all q x there).at in let before = near_all q x.history n.0 w x there all n.1 in (n.0, before, before)
   lands_by p (nodes.Store number) = go (table_of p.message == q) refl
     where
+      by_owner : (o : Option Stored) (b : Bool) → All (NearAt q x.history o) (move_table (table_of p.message) (store.Take p.from p.message) w).world → All (NearAt q x.history o) w
+          → All (NearAt q x.history o) (if b then (move_table (table_of p.message) (store.Take p.from p.message) w).world else w)
+      by_owner o true moved before = moved
+      by_owner o false moved before = before
+
       go : (b : Bool) → (table_of p.message == q) ≡ b → LandsBy p (nodes.Store number)
       go true is =
           let t = takes w (table_of p.message) p.from p.message x (all q x there) in
           let before = near_all q x.history t.item w x there all t.before in
-          (t.item, before, taken_near p t.item (λ same. t.within) before)
+          (t.item, before, by_owner t.item (owner_of w (table_of p.message) == number) (taken_near p t.item (λ same. t.within) before) before)
       go false is =
           let n = near_here x.history x.store.disk x.store.agenda (all q x there).at in
           let before = near_all q x.history n.0 w x there all n.1 in
-          (n.0, before, taken_near p n.0 (λ same. absurd (grind (arith, nat_tests, is, same))) before)
+          (n.0, before, by_owner n.0 (owner_of w (table_of p.message) == number) (taken_near p n.0 (λ same. absurd (grind (arith, nat_tests, is, same))) before) before)
 
   lands_from : (n : ℕ) (o : Option Packet) → slice_get w.packets n ≡ o → IsLanding q w (events.Deliver n) x
   lands_from n None at = lands_here q w (events.Deliver n) x there all (ap (taken_from w) at)

@@ -1,4 +1,5 @@
--- No move tells that a packet was sent, and what moves send goes to clients, gateways and the one Store.
+-- No move tells that a packet was sent. What clients send goes to the owner of its table, and what Stores send to clients
+-- and gateways.
 use Rattle.std.proofs.Common.{◌≡◌, ℕ, Bool, true, false, List, [], ◌∷◌, ◌++◌, Option, Some, None, Result, Ok, Err, refl, sym, subst, append-nil}
 use Rattle.std.specs.Prelude.{map, if◌then◌else◌, ◌==◌, ◌&&◌, nat_le, nat_lt, option_map, option_to_list}
 use Rattle.conflicts.specs.declared.pair.Choice.{Choice}
@@ -29,7 +30,6 @@ use Rattle.step_tables.specs.StoreMoves.{StoreDisk, StoreTask, TableStore, Store
 use Rattle.step_tables.specs.Chunks.{rising, new_names, old_names, is_named, is_spelled}
 use Rattle.step_tables.specs.ClientMoves as client
 use Rattle.step_tables.specs.ClientMoves.{Slots, TableDisk, ClientDisk, ClientTask, Client, ClientMove, ClientStep, Plan, RowPut, RowOut, Shape, client_step}
-use Rattle.world_tables.specs.World.{owner, address}
 
 abbrev pub IsPlainFact : Fact → Type 0
 IsPlainFact (facts.Sent packet from to name) = ⊥
@@ -39,20 +39,16 @@ abbrev pub ArePlainFacts : List Fact → Type 0
 ArePlainFacts [] = Unit {0}
 ArePlainFacts (fact ∷ more) = IsPlainFact fact × ArePlainFacts more
 
--- there is one Store
-abbrev pub IsPlace : Node → Type 0
-IsPlace (nodes.Store number) = number ≡ owner
-IsPlace other = Unit {0}
-
-abbrev pub ToPlaces : List Send → Type 0
-ToPlaces [] = Unit {0}
-ToPlaces (send ∷ more) = IsPlace (address send.to) × ToPlaces more
+-- each goes to the owner of its table
+abbrev pub ToOwners : List Send → Type 0
+ToOwners [] = Unit {0}
+ToOwners (send ∷ more) = (send.to ≡ None) × ToOwners more
 
 -- ---- clients
 
 abbrev pub ArePlainTasks : List ClientTask → Type 0
 ArePlainTasks [] = Unit {0}
-ArePlainTasks (task ∷ more) = ArePlainFacts task.facts × ToPlaces task.sends × ArePlainTasks more
+ArePlainTasks (task ∷ more) = ArePlainFacts task.facts × ToOwners task.sends × ArePlainTasks more
 
 abbrev pub IsPlainAgenda : Option (List ClientTask) → Type 0
 IsPlainAgenda None = Unit {0}
@@ -60,7 +56,7 @@ IsPlainAgenda (Some tasks) = ArePlainTasks tasks
 
 pub record IsPlainStep (s : ClientStep) : Type 0 where
   pub facts : ArePlainFacts s.facts
-  pub sends : ToPlaces s.sends
+  pub sends : ToOwners s.sends
   pub agenda : IsPlainAgenda s.client.agenda
 
 told_plain : (some : List ClientFact) → ArePlainFacts (map facts.Client some)
@@ -75,7 +71,7 @@ keeps_plain : (steps : List Step) (more : List ClientTask) → ArePlainTasks mor
 keeps_plain [] more p = p
 keeps_plain (step ∷ steps) more p = (tt, tt, keeps_plain steps more p)
 
-rest_plain : (shape : Shape) (p : Plan) (sends : List Send) → ToPlaces sends → ArePlainTasks (client.rest_of shape p sends)
+rest_plain : (shape : Shape) (p : Plan) (sends : List Send) → ToOwners sends → ArePlainTasks (client.rest_of shape p sends)
 rest_plain shape p sends t = go p.row p.position
   where
     last : List ClientTask
@@ -93,11 +89,11 @@ rest_plain shape p sends t = go p.row p.position
 quiet_plain : (d : ClientDisk) (agenda : Option (List ClientTask)) (a : Answer) → IsPlainAgenda agenda → IsPlainStep (client.quiet d agenda a)
 quiet_plain d agenda a p = record { facts = tt; sends = tt; agenda = p }
 
-begun_plain : (shape : Shape) (d : ClientDisk) (a : Answer) (p : Plan) (sends : List Send) → ToPlaces sends → IsPlainStep (client.begun shape d a p sends)
+begun_plain : (shape : Shape) (d : ClientDisk) (a : Answer) (p : Plan) (sends : List Send) → ToOwners sends → IsPlainStep (client.begun shape d a p sends)
 begun_plain shape d a p sends t = record { facts = tt; sends = tt; agenda = keeps_plain shape.before _ (told_plain p.facts, tt, rest_plain shape p sends t) }
 
 module _ (c : ℕ) (shape : Shape) (d : ClientDisk) where
-  idle_sends : (sends : List Send) → ToPlaces sends → IsPlainStep (record (client.ignored d) { sends = sends })
+  idle_sends : (sends : List Send) → ToOwners sends → IsPlainStep (record (client.ignored d) { sends = sends })
   idle_sends sends t = record { facts = tt; sends = t; agenda = tt }
 
   strong_plain : (size table : ℕ) (row : List ℕ) (slots : Slots) (x : Content) (o : Option InFlight) → IsPlainStep (client.write_strong size c shape d table row slots x o)
@@ -158,15 +154,15 @@ module _ (c : ℕ) (shape : Shape) (d : ClientDisk) where
   sum_plain : (agenda : Option (List ClientTask)) (table : ℕ) (row : List ℕ) → IsPlainAgenda agenda → IsPlainStep (client.sum_step d agenda table row)
   sum_plain agenda table row p = let s = show_plain agenda table row p in record { facts = s.facts; sends = s.sends; agenda = s.agenda }
 
-  resent_places : (table : ℕ) (rows : List (List ℕ × Slots)) → ToPlaces (client.resent c table rows)
-  resent_places table [] = tt
-  resent_places table (x ∷ rows) = go x.1.out (resent_places table rows)
+  resent_owners : (table : ℕ) (rows : List (List ℕ × Slots)) → ToOwners (client.resent c table rows)
+  resent_owners table [] = tt
+  resent_owners table (x ∷ rows) = go x.1.out (resent_owners table rows)
     where
-      go : (o : Option InFlight) → ToPlaces (client.resent c table rows) → ToPlaces (option_to_list (option_map (client.request_for c table x.0) o) ++ client.resent c table rows)
+      go : (o : Option InFlight) → ToOwners (client.resent c table rows) → ToOwners (option_to_list (option_map (client.request_for c table x.0) o) ++ client.resent c table rows)
       go None rest = rest
       go (Some out) rest = (refl, rest)
 
-  first_plain : (table : ℕ) (again : List Send) (o : Option RowOut) → ToPlaces again → IsPlainStep (client.sync_first c shape d table again o)
+  first_plain : (table : ℕ) (again : List Send) (o : Option RowOut) → ToOwners again → IsPlainStep (client.sync_first c shape d table again o)
   first_plain table again None t = record { facts = tt; sends = t; agenda = tt }
   first_plain table again (Some x) t =
       let b = begun_plain shape d facts.Done (client.send_plan d table x) (client.request_for c table x.row x.out ∷ []) (refl, tt) in
@@ -176,7 +172,7 @@ module _ (c : ℕ) (shape : Shape) (d : ClientDisk) where
   sync_in_plain agenda table None p = quiet_plain d (Some agenda) _ p
   sync_in_plain (task ∷ more) table (Some opened) p = quiet_plain d (Some (task ∷ more)) _ p
   sync_in_plain [] table (Some opened) p =
-      first_plain table (client.resent c table opened.rows) (option_map (client.row_out opened.schema.chunk) (client.first_to_send opened.rows)) (resent_places table opened.rows)
+      first_plain table (client.resent c table opened.rows) (option_map (client.row_out opened.schema.chunk) (client.first_to_send opened.rows)) (resent_owners table opened.rows)
 
   sync_plain : (agenda : Option (List ClientTask)) (table : ℕ) → IsPlainAgenda agenda → IsPlainStep (client.sync_step c shape d agenda table)
   sync_plain None table p = quiet_plain d None _ tt
@@ -186,19 +182,19 @@ module _ (c : ℕ) (shape : Shape) (d : ClientDisk) where
   tears_plain table [] = tt
   tears_plain table (row ∷ tears) = (tt, tears_plain table tears)
 
-  asks_places : (table : ℕ) (rows : List (List ℕ)) → ToPlaces (map (client.torn_from c table) rows)
-  asks_places table [] = tt
-  asks_places table (row ∷ rows) = (refl, asks_places table rows)
+  asks_owners : (table : ℕ) (rows : List (List ℕ)) → ToOwners (map (client.torn_from c table) rows)
+  asks_owners table [] = tt
+  asks_owners table (row ∷ rows) = (refl, asks_owners table rows)
 
-  from_places : (table position : ℕ) (asks : List (List ℕ)) → ToPlaces (client.next_from c table position asks)
-  from_places table position [] = (refl, tt)
-  from_places table position (row ∷ rows) = asks_places table (row ∷ rows)
+  from_owners : (table position : ℕ) (asks : List (List ℕ)) → ToOwners (client.next_from c table position asks)
+  from_owners table position [] = (refl, tt)
+  from_owners table position (row ∷ rows) = asks_owners table (row ∷ rows)
 
   next_in_plain : (agenda : List ClientTask) (table : ℕ) (tears asks : List (List ℕ)) (o : Option TableDisk) → ArePlainTasks agenda
       → IsPlainStep (client.next_in c shape d agenda table tears asks o)
   next_in_plain agenda table tears asks None p = quiet_plain d (Some agenda) _ p
   next_in_plain (task ∷ more) table tears asks (Some opened) p = quiet_plain d (Some (task ∷ more)) _ p
-  next_in_plain [] table tears asks (Some opened) p = record { facts = tears_plain table tears; sends = from_places table opened.position asks; agenda = tt }
+  next_in_plain [] table tears asks (Some opened) p = record { facts = tears_plain table tears; sends = from_owners table opened.position asks; agenda = tt }
 
   next_plain : (agenda : Option (List ClientTask)) (table : ℕ) (tears asks : List (List ℕ)) → IsPlainAgenda agenda → IsPlainStep (client.next_step c shape d agenda table tears asks)
   next_plain None table tears asks p = quiet_plain d None _ tt
@@ -296,10 +292,10 @@ module _ (c : ℕ) (shape : Shape) (d : ClientDisk) where
   response_in_plain r None = quiet_plain d (Some []) _ tt
   response_in_plain r (Some opened) = response_plain r opened (client.slots_at opened r.row).out
 
-  next_pull_places : (table : ℕ) (q : Pulled) → ToPlaces (client.next_pull c table q)
-  next_pull_places table q = go (nat_lt q.to q.latest)
+  next_pull_owners : (table : ℕ) (q : Pulled) → ToOwners (client.next_pull c table q)
+  next_pull_owners table q = go (nat_lt q.to q.latest)
     where
-      go : (b : Bool) → ToPlaces (if b then client.pull_from c table q.to ∷ [] else [])
+      go : (b : Bool) → ToOwners (if b then client.pull_from c table q.to ∷ [] else [])
       go true = (refl, tt)
       go false = tt
 
@@ -309,8 +305,8 @@ module _ (c : ℕ) (shape : Shape) (d : ClientDisk) where
       go : (b : Bool) → IsPlainStep (if b
           then client.begun shape d facts.Done (client.position_plan c d q.table q.to) (client.next_pull c q.table q)
           else client.begun shape d facts.Done (client.row_plan c d q.table hd.row q.to (client.row_placed opened.schema.scheme c q.table hd slots slots.out)) (client.next_pull c q.table q))
-      go true = begun_plain shape d _ _ _ (next_pull_places q.table q)
-      go false = begun_plain shape d _ _ _ (next_pull_places q.table q)
+      go true = begun_plain shape d _ _ _ (next_pull_owners q.table q)
+      go false = begun_plain shape d _ _ _ (next_pull_owners q.table q)
 
   pulled_plain : (q : Pulled) (opened : TableDisk) (o : Option Header) → IsPlainStep (client.pulled_taken c shape d q opened o)
   pulled_plain q opened None = quiet_plain d (Some []) _ tt
@@ -417,7 +413,19 @@ client_plain c shape s (client.ResolveAll table by) p = all_plain c shape s.disk
 client_plain c shape s (client.Crash luck) p = crash_plain c shape s.disk s.agenda luck
 client_plain c shape s client.Start p = start_plain c shape s.disk s.agenda p
 
--- ---- tables at the Store
+-- ---- tables at a Store
+
+abbrev pub IsPlace : Node → Type 0
+IsPlace (nodes.Store number) = ⊥
+IsPlace other = Unit {0}
+
+abbrev pub IsPlaceIn : Option Node → Type 0
+IsPlaceIn None = ⊥
+IsPlaceIn (Some node) = IsPlace node
+
+abbrev pub ToPlaces : List Send → Type 0
+ToPlaces [] = Unit {0}
+ToPlaces (send ∷ more) = IsPlaceIn send.to × ToPlaces more
 
 abbrev pub ArePlainWrites : List StoreTask → Type 0
 ArePlainWrites [] = Unit {0}
@@ -519,7 +527,7 @@ started_plain number table d None p = go d.pending
     go None = still_plain d _ _ (tt, tt, (tt, tt, ((tt, tt), tt, tt)))
     go (Some i) = found i (store.item_at i.entry.version d.items)
 
--- a message comes from a client, a gateway or the Store
+-- a message comes from a client or a gateway
 abbrev pub IsFrom : StoreMove → Type 0
 IsFrom (store.Take from m) = IsPlace from
 IsFrom other = Unit {0}

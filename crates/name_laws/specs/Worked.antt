@@ -9,9 +9,8 @@ use Rattle.table_model.specs.declared.message_name.MessageName.TheVariants as na
 use Rattle.step_tables.specs.Facts.{AnswerLine}
 use Rattle.step_tables.specs.Facts as facts
 use Rattle.step_tables.specs.Messages as lucks
-use Rattle.world_tables.specs.World.{the_store}
 use Rattle.world_tables.specs.Turns.{Turn, Happening}
-use Rattle.world_laws.specs.Worked.{the_row, happens, turn, told, wrote_content, accepted, sent, pictures}
+use Rattle.world_laws.specs.Worked.{the_store, the_row, happens, turn, told, wrote_content, accepted, sent, pictures}
 use Rattle.world_laws.specs.Worked.{object, named}
 use Rattle.world_laws.specs.WorkedCrashes.{done_so, did, forward, recovered, sends, sends_written}
 

@@ -1,4 +1,4 @@
-//! What the names of chunks at the Store are, in every run of the world.
+//! What the names of chunks at the Stores are, in every run of the world.
 #![tactic(auto)]
 
 ghost use Rattle.std.specs.Prelude.{◌≡◌, List, [], ◌∷◌};
@@ -8,10 +8,10 @@ ghost use Rattle.world_laws.specs.Worked.{object_names, named};
 ghost use Rattle.name_laws.specs.Worked.{replaced, replaced_written, failed_drop, failed_drop_written};
 ghost use Rattle.name_laws.specs.Worked.{keeps_what_is_gone, keeps_what_is_gone_written, whole_names};
 
-/// In every run, wherever packets are lost or repeated, device calls fail and the Store crashes: where a table's chunks
-/// are listed and the Store is quiet, so that nothing came to it while it was on hold that it hasn't worked off since,
-/// the list has exactly the chunks that the table's rows name. They are different names in rising order, each of an
-/// entry's version, and those of a row are as many as its current content has chunks.
+/// In every run, wherever packets are lost or repeated, device calls fail and Stores crash or join: where a table's
+/// chunks are listed and its owner is quiet, so that nothing came to that Store while it was on hold that it hasn't
+/// worked off since, the list has exactly the chunks that the table's rows name. They are different names in rising
+/// order, each of an entry's version, and those of a row are as many as its current content has chunks.
 pub fn a_quiet_store_holds_what_its_rows_name()
     ensures { (happenings : List Happening) → AreListed (turns happenings) }
 {}

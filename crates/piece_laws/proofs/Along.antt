@@ -9,7 +9,7 @@ use Rattle.step_tables.specs.StoreMoves as store
 use Rattle.step_tables.specs.StoreMoves.{StoreDisk, StoreTask, StoreMove, StoreStep}
 use Rattle.step_tables.specs.ClientMoves as client
 use Rattle.step_tables.specs.ClientMoves.{Client, ClientTask, ClientMove, Shape, no_shape, client_step}
-use Rattle.world_tables.specs.World.{World, Hosted, Moved, owner, tables_of, hosted_at, client_at, has_node, still, and_then, and_unless}
+use Rattle.world_tables.specs.World.{World, Hosted, Moved, owner_of, tables_of, hosted_at, client_at, has_node, still, and_then, and_unless}
 use Rattle.world_tables.specs.World.{after_table, table_step, move_hosted, move_table, move_there, move_client, first_luck, other_lucks, client_works, client_tasks, client_until_idle, client_writes}
 use Rattle.world_tables.specs.World.{client_follows, starts_by, client_falls, gets_tasks, client_follows_from}
 use Rattle.world_tables.specs.World.{table_falls, tables_fall, without_down, store_falls, or_falls, is_at_work, busy_table, write_next, store_works, tasks_of, store_until_idle}
@@ -24,6 +24,18 @@ use Rattle.piece_laws.proofs.Worlds.{IsNamedWorld, client_moved, table_moved}
 module _ (size : ℕ → ℕ) where
   abbrev Named : World → Type 0
   Named w = IsNamedWorld size w
+
+  -- nor is which Stores there are
+  pub stores_named : (w : World) (stores : List ℕ) (downs : List Node) → Named w → Named (record w { stores = stores; downs = downs })
+  stores_named w stores downs k = record {
+    sized = k.sized;
+    declared = k.declared;
+    tables = k.tables;
+    items = k.items;
+    clients = k.clients;
+    packets = k.packets;
+    pairs = k.pairs;
+  }
 
   -- what is on hold, what is down, which links are down and which phases are open is no part of it
   pub nodes_named : (w : World) (holds downs cuts : List Node) (phases : List (ℕ × ℕ)) → Named w → Named (record w { holds = holds; downs = downs; cuts = cuts; phases = phases })
@@ -84,21 +96,22 @@ module _ (size : ℕ → ℕ) where
   starts_at w table k = go (hosted_at w table) refl
     where
       made : (hosted : Hosted) → hosted_at w table ≡ Some hosted → (b : Bool) → hosted.made ≡ b
-          → Named (if b then move_hosted w table store.Start (Some hosted) else after_table w table (record hosted { made = true }) (declared_late table)).world
+          → Named (if b then move_hosted w table store.Start (Some hosted) else after_table w table (record hosted { made = true }) (declared_late (owner_of w table) table)).world
       made hosted at true is =
           let x = k.tables table hosted at in
           table_moved size w table hosted hosted (table_step w table hosted store.Start) at k
-          (started_move (size table) (asked_in w) table owner hosted.store.disk hosted.store.agenda x.grows x.sends)
+          (started_move (size table) (asked_in w) table (owner_of w table) hosted.store.disk hosted.store.agenda x.grows x.sends)
           (λ none. absurd (let both : true ≡ false = sym is ∙ none in cc))
       made hosted at false is =
           let x = k.tables table hosted at in
-          table_moved size w table (record hosted { made = true }) hosted (declared_late table) at k
+          table_moved size w table (record hosted { made = true }) hosted (declared_late (owner_of w table) table) at k
           (record { became = inl (sym (x.unmade is).0); grows = tt; sends = tt; known = tt })
           (λ none. absurd cc)
 
       go : (o : Option Hosted) → hosted_at w table ≡ o → Named (start_hosted w table o).world
       go None at = k
-      go (Some hosted) at = subst (λ (o : Option Hosted). Named (if hosted.made then move_hosted w table store.Start o else after_table w table (record hosted { made = true }) (declared_late table)).world)
+      go (Some hosted) at = subst
+          (λ (o : Option Hosted). Named (if hosted.made then move_hosted w table store.Start o else after_table w table (record hosted { made = true }) (declared_late (owner_of w table) table)).world)
           (sym at) (made hosted at hosted.made refl)
 
   pub named_at : (w : World) → Named w → (table : ℕ) → AreWellNamed (size table) (items_at w table)
@@ -190,8 +203,8 @@ module _ (size : ℕ → ℕ) where
   pub table_follows_named : (table : ℕ) (lucks : List Luck) (w : World) → Named w → Named (table_follows table lucks w).world
   table_follows_named table lucks w k = go (is_at_work w table)
     where
-      go : (b : Bool) → Named (if b then store_follows owner lucks w else still w).world
-      go true = store_follows_named owner lucks w k
+      go : (b : Bool) → Named (if b then store_follows (owner_of w table) lucks w else still w).world
+      go true = store_follows_named (owner_of w table) lucks w k
       go false = k
 
   pub store_crashes_named : (number calls : ℕ) (lucks : List Luck) (w : World) → Named w → Named (store_crashes number calls lucks w).world
@@ -222,12 +235,12 @@ module _ (size : ℕ → ℕ) where
       tables = tables_of w number
 
       m : Moved
-      m = tables_start tables lucks w
+      m = and_then (tables_fall tables w) (tables_start tables lucks)
 
       started : Named m.world
-      started = tables_start_named tables lucks w k
+      started = tables_start_named tables lucks (tables_fall tables w).world (tables_fall_named tables w k)
 
-      go : (b : Bool) → Named (if b then and_then m (tables_fall tables) else and_then m (λ x. store_follows number (drop (length tables) lucks) (without_down (nodes.Store number) x))).world
-      go true = tables_fall_named tables m.world started
+      go : (b : Bool) → Named (if b then and_then m (store_falls number) else and_then m (λ x. store_follows number (drop (length tables) lucks) (without_down (nodes.Store number) x))).world
+      go true = store_falls_named number m.world started
       go false = store_follows_named number (drop (length tables) lucks) (without_down (nodes.Store number) m.world)
           (nodes_named m.world m.world.holds (without_down (nodes.Store number) m.world).downs m.world.cuts m.world.phases started)

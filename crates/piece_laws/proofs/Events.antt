@@ -1,6 +1,6 @@
 -- Each event of a world keeps what it has of the names of chunks.
 use Rattle.std.proofs.Common.{◌≡◌, ◌≤◌, inl, ⊎_elim, ℕ, ◌+◌, Bool, true, false, List, [], ◌∷◌, length, Option, Some, None, refl, sym, ◌∙◌, ap, subst}
-use Rattle.std.specs.Prelude.{◌&&◌, not, drop, slice_get, if◌then◌else◌}
+use Rattle.std.specs.Prelude.{◌&&◌, drop, slice_get, if◌then◌else◌}
 use Rattle.std.specs.Ordering.{nat_cmp}
 use Rattle.std.specs.Map.{lookup}
 use Rattle.std.specs.BTreeMap.{is_at, insert_entry}
@@ -22,14 +22,21 @@ use Rattle.step_tables.specs.Messages as messages
 use Rattle.step_tables.specs.StoreMoves as store
 use Rattle.step_tables.specs.StoreMoves.{StoreDisk, StoreTask, StoreMove, taken, yours_in}
 use Rattle.step_tables.specs.ClientMoves as client
-use Rattle.step_tables.specs.ClientMoves.{Slots, TableDisk, ClientDisk, Client, ClientTask, ClientMove, Shape, no_shape, client_step, is_cut_off, kept_out, slots_in, slots_of, table_at, seen, no_slots}
+use Rattle.step_tables.specs.ClientMoves.{Slots, TableDisk, ClientDisk, Client, ClientTask, ClientMove, Shape, no_shape, client_step, is_cut_off, kept_out, slots_in, slots_of, table_at}
+use Rattle.step_tables.specs.ClientMoves.{seen, no_slots}
 use Rattle.step_tables.proofs.Lists.{among_get}
-use Rattle.world_tables.specs.World.{World, Packet, Hosted, Moved, WorldStep, Lucks, owner, the_store, schema_at, scheme_in, chunk_in, hosted_at, client_at, is_down, still, and_then, and_unless, failing}
-use Rattle.world_tables.specs.World.{after_table, table_step, move_hosted, move_table, move_client, first_luck, other_lucks, client_tasks, client_until_idle, client_works, client_writes, client_starts, starts_by, client_falls}
-use Rattle.world_tables.specs.World.{client_crashes, client_follows_from, store_falls, table_follows, busy_table, busy_step, write_next, tasks_of, store_until_idle, store_crashes, store_starts, crash_luck, next_write}
-use Rattle.world_tables.specs.World.{answering, answered, refused, silent, unless_down, agenda_of, with_table, made_with, declared, with_opened, open_all, opened, new_client, first_agenda, joined, with_link, linked}
-use Rattle.world_tables.specs.World.{is_cut, is_resolving, unless_cut, unless_kept, calls, call, call_there, listed, first_shape, other_shapes, chosen_of, client_pairs, resolve_by, plan_size, resolve_each, resolve_all}
-use Rattle.world_tables.specs.World.{take_read, take_at, to_hosted, to_there, carried, delivered, row_read, row_shown, store_shows, chunk_names, history_lines, worked, all_worked, crashed, started, step, without_node}
+use Rattle.world_tables.specs.World.{World, Packet, Hosted, Moved, WorldStep, Lucks, owner_of, has_store, hosted_by, schema_at, scheme_in, chunk_in, hosted_at, client_at, is_down, still}
+use Rattle.world_tables.specs.World.{and_then, and_unless, failing}
+use Rattle.world_tables.specs.World.{after_table, table_step, move_hosted, move_table, move_client, first_luck, other_lucks, client_tasks, client_until_idle, client_works, client_writes}
+use Rattle.world_tables.specs.World.{client_starts, starts_by, client_falls}
+use Rattle.world_tables.specs.World.{client_crashes, client_follows_from, store_falls, table_follows, busy_table, busy_step, write_next, tasks_of, store_until_idle, store_crashes}
+use Rattle.world_tables.specs.World.{store_starts, crash_luck, next_write}
+use Rattle.world_tables.specs.World.{answering, answered, refused, silent, unless_down, agenda_of, with_table, made_with, declared, with_opened, open_all, opened, new_client, first_agenda}
+use Rattle.world_tables.specs.World.{joined, with_link, linked}
+use Rattle.world_tables.specs.World.{is_cut, is_resolving, unless_cut, unless_kept, calls, call, call_there, listed, first_shape, other_shapes, chosen_of, client_pairs, resolve_by}
+use Rattle.world_tables.specs.World.{plan_size, resolve_each, resolve_all}
+use Rattle.world_tables.specs.World.{take_read, take_at, to_hosted, to_there, carried, delivered, row_read, row_shown, store_shows, chunk_names, history_lines, worked, all_worked, crashed}
+use Rattle.world_tables.specs.World.{started, step, without_node, joining}
 use Rattle.world_tables.specs.World as world
 use Rattle.world_laws.proofs.Kept.{Kept}
 use Rattle.world_laws.proofs.Looks.{look_cases}
@@ -40,7 +47,8 @@ use Rattle.piece_laws.proofs.Disks.{AreNamed, IsNamedClient, client_later}
 use Rattle.piece_laws.proofs.Moves.{IsReady, Takes}
 use Rattle.piece_laws.proofs.Ready.{below_yours, ready_at, given_at}
 use Rattle.piece_laws.proofs.Worlds.{request_there, IsNamedWorld, IsTable, table_moved, known_later, pairs_later}
-use Rattle.piece_laws.proofs.Along.{nodes_named, unless_named, moves_at, client_works_named, client_writes_named, follows_from_named, client_falls_named, client_starts_named, store_falls_named, write_next_named}
+use Rattle.piece_laws.proofs.Along.{stores_named, nodes_named, unless_named, moves_at, client_works_named, client_writes_named, follows_from_named, client_falls_named, client_starts_named}
+use Rattle.piece_laws.proofs.Along.{store_falls_named, write_next_named}
 use Rattle.piece_laws.proofs.Along.{store_works_named, table_follows_named, store_crashes_named, store_starts_named}
 
 module _ (size : ℕ → ℕ) where
@@ -187,8 +195,8 @@ module _ (size : ℕ → ℕ) where
         first = takes_at p a table is
 
         reads : (luck : Luck) → Named (take_read w table hosted (store.Take p.from p.message) (other_lucks lucks) luck).world
-        reads messages.FailedBefore = store_falls_named size owner w k
-        reads messages.FailedAfter = store_falls_named size owner w k
+        reads messages.FailedBefore = store_falls_named size (owner_of w table) w k
+        reads messages.FailedAfter = store_falls_named size (owner_of w table) w k
         reads messages.Done = table_follows_named size table (other_lucks lucks) (move_table table (store.Take p.from p.message) w).world first
 
         go : (o : Option (List StoreTask)) → Named (take_at w table hosted (store.Take p.from p.message) lucks o).world
@@ -198,7 +206,7 @@ module _ (size : ℕ → ℕ) where
 
     carried_named : (p : Packet) → Among w.packets p → (shape : Shape) (lucks : List Luck) (to : Node) → p.to ≡ to → Named (carried w p shape lucks to).world
     carried_named p a shape lucks (nodes.Store number) is =
-        down_named w (nodes.Store number) _ k (to_hosted_named p a (table_of p.message) refl lucks (hosted_at w (table_of p.message)))
+        down_named w (nodes.Store number) _ k (to_hosted_named p a (table_of p.message) refl lucks (hosted_by w number (table_of p.message)))
     carried_named p a shape lucks (nodes.Gate gate) is = k
     carried_named p a shape lucks (nodes.Client c) is = go (client_at w c)
       where
@@ -212,14 +220,14 @@ module _ (size : ℕ → ℕ) where
 
     -- ---- what the Store shows
 
-    shows_named : (row : List ℕ) (lucks : List Luck) (o : Option Hosted) → Named (store_shows w row lucks o).world
-    shows_named row lucks None = k
-    shows_named row lucks (Some hosted) = down_named w the_store _ k (read (first_luck lucks))
+    shows_named : (table : ℕ) (row : List ℕ) (lucks : List Luck) (o : Option Hosted) → Named (store_shows w table row lucks o).world
+    shows_named table row lucks None = k
+    shows_named table row lucks (Some hosted) = down_named w (nodes.Store (owner_of w table)) _ k (read (first_luck lucks))
       where
-        read : (luck : Luck) → Named (row_read w hosted row luck).world
+        read : (luck : Luck) → Named (row_read w table hosted row luck).world
         read messages.Done = k
-        read messages.FailedBefore = store_falls_named size owner w k
-        read messages.FailedAfter = store_falls_named size owner w k
+        read messages.FailedBefore = store_falls_named size (owner_of w table) w k
+        read messages.FailedAfter = store_falls_named size (owner_of w table) w k
 
     history_named : (table : ℕ) (o : Option Hosted) → Named (history_lines w table o).world
     history_named table None = k
@@ -227,7 +235,7 @@ module _ (size : ℕ → ℕ) where
 
     chunks_named : (table : ℕ) (o : Option Hosted) → Named (chunk_names w table o).world
     chunks_named table None = k
-    chunks_named table (Some hosted) = down_named w the_store _ k k
+    chunks_named table (Some hosted) = down_named w (nodes.Store (owner_of w table)) _ k k
 
     -- ---- what is done to a node
 
@@ -247,7 +255,7 @@ module _ (size : ℕ → ℕ) where
     crashed_named count lucks (nodes.Gate gate) = k
 
     started_named : (shape : Shape) (lucks : List Luck) (node : Node) → Named (started w shape lucks node).world
-    started_named shape lucks (nodes.Store number) = go (is_down w (nodes.Store number))
+    started_named shape lucks (nodes.Store number) = go (has_store w number && is_down w (nodes.Store number))
       where
         go : (b : Bool) → Named (if b then answering facts.Done (store_starts number lucks w) else answered w facts.Done).world
         go true = store_starts_named size number lucks w k
@@ -272,8 +280,8 @@ module _ (size : ℕ → ℕ) where
 
     -- ---- declarations
 
-    with_table_named : (table : ℕ) (schema : Schema) (made up : Bool) → hosted_at w table ≡ None → size table ≡ schema.chunk → (made ≡ false → up ≡ false) → Named (with_table w table schema made up)
-    with_table_named table schema made up none fits down = record {
+    with_table_named : (table : ℕ) (schema : Schema) (made : Bool) → hosted_at w table ≡ None → size table ≡ schema.chunk → Named (with_table w table schema made)
+    with_table_named table schema made none fits = record {
       sized = λ q x at. ⊎_elim
           (λ e. let both : Some schema ≡ Some x = sym e.1 ∙ at in let same : schema ≡ x = cc in ap size e.0 ∙ (fits ∙ ap (λ (y : Schema). y.chunk) same))
           (λ e. k.sized q x (sym e.1 ∙ at)) (look_cases w.schemas table schema q);
@@ -291,7 +299,7 @@ module _ (size : ℕ → ℕ) where
     }
       where
         new : Hosted
-        new = record { store = record { disk = record { items = []; pending = None; left = [] }; agenda = agenda_of up }; history = []; made = made }
+        new = record { store = record { disk = record { items = []; pending = None; left = [] }; agenda = agenda_of made }; history = []; made = made }
 
         later : ℕ → List Stored
         later q = items_in (lookup (is_at (nat_cmp q)) (insert_entry nat_cmp w.tables table new))
@@ -303,28 +311,21 @@ module _ (size : ℕ → ℕ) where
         became q = inl (same_items q)
 
         new_table : (q : ℕ) → IsTable size (asked_in w) q new
-        new_table q = by_up up refl
+        new_table q = at made
           where
-            by_up : (b : Bool) → up ≡ b → IsTable size (asked_in w) q (record { store = record { disk = record { items = []; pending = None; left = [] }; agenda = agenda_of up }; history = []; made = made })
-            by_up b is = subst (λ (x : Bool). IsTable size (asked_in w) q (record { store = record { disk = record { items = []; pending = None; left = [] }; agenda = agenda_of x }; history = []; made = made })) (sym is)
-                (at b is)
-              where
-                at : (x : Bool) → up ≡ x → IsTable size (asked_in w) q (record { store = record { disk = record { items = []; pending = None; left = [] }; agenda = agenda_of x }; history = []; made = made })
-                at true e = record { linked = nothing_linked (size q); grows = tt; sends = tt; unmade = λ f. absurd (let both : true ≡ false = sym e ∙ down f in cc) }
-                at false e = record { linked = nothing_linked (size q); grows = tt; sends = tt; unmade = λ f. (refl, refl) }
+            at : (x : Bool) → IsTable size (asked_in w) q (record { store = record { disk = record { items = []; pending = None; left = [] }; agenda = agenda_of x }; history = []; made = x })
+            at true = record { linked = nothing_linked (size q); grows = tt; sends = tt; unmade = λ f. absurd cc }
+            at false = record { linked = nothing_linked (size q); grows = tt; sends = tt; unmade = λ f. (refl, refl) }
 
     declared_named : (table : ℕ) (schema : Schema) (luck : Luck) (o : Option Hosted) → hosted_at w table ≡ o → (hosted_at w table ≡ None → size table ≡ schema.chunk)
         → Named (declared w table schema luck o)
     declared_named table schema luck (Some hosted) at fits = k
     declared_named table schema luck None at fits = go luck
       where
-        fallen : Named (store_falls owner (with_table w table schema false false)).world
-        fallen = store_falls_named size owner (with_table w table schema false false) (with_table_named table schema false false at (fits at) (λ e. refl))
-
         go : (l : Luck) → Named (made_with w table schema l)
-        go messages.Done = with_table_named table schema true (not (is_down w the_store)) at (fits at) (λ e. absurd cc)
-        go messages.FailedBefore = fallen
-        go messages.FailedAfter = fallen
+        go messages.Done = with_table_named table schema true at (fits at)
+        go messages.FailedBefore = with_table_named table schema false at (fits at)
+        go messages.FailedAfter = with_table_named table schema false at (fits at)
 
     -- ---- a client that joins
 
@@ -396,7 +397,7 @@ module _ (size : ℕ → ℕ) where
     quiet_takes c node at idle = ready_at g size w s kept c node at idle
 
     pub step_named : (event : Event) (lucks : Lucks) → FitsFirst event → Named (step w event lucks).world
-    step_named (events.Store number) lucks f = k
+    step_named (events.Store number) lucks f = stores_named size w (number ∷ w.stores) (joining number w.downs) k
     step_named (events.Table table schema) lucks f = declared_named table schema (first_luck lucks.calls) (hosted_at w table) refl f
     step_named (events.Client c gate tables) lucks f = joined_named c tables (first_luck lucks.calls) (client_at w c)
     step_named (events.Write c table row x) lucks f = call_named w c (client.Write table row x) lucks.shape lucks.calls k (quiet_takes c) (client_at w c)
@@ -415,7 +416,7 @@ module _ (size : ℕ → ℕ) where
         resolve_all_named c table by w k lucks.shapes (other_lucks lucks.calls) (call w c (client.ResolveAll table by) lucks.shape lucks.calls)
         (call_named w c (client.ResolveAll table by) lucks.shape lucks.calls k (λ node at. tt) (client_at w c))
     step_named (events.Deliver n) lucks f = delivered_named n lucks.shape lucks.calls (slice_get w.packets n) refl
-    step_named (events.StoreShow table row) lucks f = shows_named row lucks.calls (hosted_at w table)
+    step_named (events.StoreShow table row) lucks f = shows_named table row lucks.calls (hosted_at w table)
     step_named (events.History table) lucks f = history_named table (hosted_at w table)
     step_named (events.Hold node) lucks f = held_named node (node ∷ w.holds)
     step_named (events.Free node) lucks f = held_named node (without_node w.holds node)

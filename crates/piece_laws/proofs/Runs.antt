@@ -1,8 +1,7 @@
 -- Along every run the names of chunks stand for one chunk each.
-use Rattle.std.proofs.Common.{◌≡◌, ℕ, Bool, true, false, List, [], ◌∷◌, Option, Some, None, refl, sym, ◌∙◌, ap, subst, arith}
-use Rattle.std.specs.Prelude.{◌==◌, map, if◌then◌else◌}
+use Rattle.std.proofs.Common.{◌≡◌, ℕ, true, List, [], ◌∷◌, Option, Some, None, refl, sym, ◌∙◌, ap, subst}
+use Rattle.std.specs.Prelude.{map}
 use Rattle.std.proofs.lemmas.Bool.{and_from}
-use Rattle.std.proofs.lemmas.Bool.Decides.{nat_tests}
 use Rattle.stab_base.specs.declared.chunk_name.ChunkName.{ChunkName}
 use Rattle.row_value.specs.declared.content.Content.{Content}
 use Rattle.row_value.specs.declared.schema.Schema.{Schema}
@@ -19,16 +18,16 @@ use Rattle.step_tables.specs.ClientMoves.{ClientTask, ClientDisk, slots_of, seen
 use Rattle.step_tables.proofs.Lists.{among_none}
 use Rattle.client_laws.proofs.Law.{client_law}
 use Rattle.client_laws.proofs.Grows.{client_grows, lapsed_grows}
-use Rattle.world_tables.specs.Quiet.{size_for}
+use Rattle.world_tables.specs.Quiet.{schema_for}
 use Rattle.world_tables.specs.Sound.{scheme_for}
 use Rattle.world_tables.specs.Turns.{Happening, Turn, turns_from, world_from}
-use Rattle.world_tables.specs.World.{World, Hosted, WorldStep, start, schema_at, hosted_at, lines_of, step}
+use Rattle.world_tables.specs.World.{World, Hosted, WorldStep, start, schema_at, hosted_at, chunk_in, lines_of, step}
 use Rattle.world_laws.proofs.Kept.{Kept}
 use Rattle.world_laws.proofs.Ups.{IsUp, start_up, step_up}
 use Rattle.world_laws.proofs.Runs.{step_sound, first_is, scheme_on, start_kept, events_are}
 use Rattle.world_laws.proofs.Runs as runs
 use Rattle.world_laws.proofs.Fresh.{fresh_part}
-use Rattle.name_laws.proofs.Runs.{size_on}
+use Rattle.name_laws.proofs.Runs.{schema_on, first_schema}
 use Rattle.piece_laws.specs.Pieces.{items_in, items_at, asked_in, NamesOne, KeepsKnown, GoTogether, SlotsNamed, IsDead, IsOutcome, IsHeaderOf, IsHeader, IsKnown, NamesStand}
 use Rattle.piece_laws.proofs.Disks.{AreNamed, IsNamedAt, now_named}
 use Rattle.piece_laws.proofs.Worlds.{there_request, IsNamedWorld}
@@ -36,6 +35,10 @@ use Rattle.piece_laws.proofs.Outs.{different_apart}
 use Rattle.piece_laws.proofs.Along.{named_at}
 use Rattle.piece_laws.proofs.Ready.{one_item, one_content}
 use Rattle.piece_laws.proofs.Events.{FitsFirst, step_named}
+
+-- the size of a table's chunks, by its first declaration
+abbrev sizes_in : List Event → ℕ → ℕ
+sizes_in es table = chunk_in (schema_for es table)
 
 module _ (size : ℕ → ℕ) where
   -- ---- what such a world says of names
@@ -99,14 +102,10 @@ module _ (size : ℕ → ℕ) where
   -- ---- runs
 
   abbrev AwaitsSizes : World → List Event → Type 0
-  AwaitsSizes w es = (table : ℕ) → hosted_at w table ≡ None → size table ≡ size_for es table
+  AwaitsSizes w es = (table : ℕ) → hosted_at w table ≡ None → size table ≡ sizes_in es table
 
   first_fits : (w : World) (event : Event) (es : List Event) → AwaitsSizes w (event ∷ es) → (g : ℕ → Scheme) (s : Said) (kept : Kept g w s) (k : IsNamedWorld size w) → FitsFirst size g w s kept k event
-  first_fits w (events.Table table schema) es awaits g s kept k = λ none. awaits table none ∙ go (table == table) refl
-    where
-      go : (b : Bool) → (table == table) ≡ b → (if b then schema.chunk else size_for es table) ≡ schema.chunk
-      go true e = refl
-      go false e = absurd (grind (arith, nat_tests, e))
+  first_fits w (events.Table table schema) es awaits g s kept k = λ none. awaits table none ∙ ap chunk_in (first_schema table schema es)
   first_fits w other es awaits g s kept k = tt
 
   run_named : (g : ℕ → Scheme) (hs : List Happening) (w : World) (s : Said) → Kept g w s → IsUp w → IsNamedWorld size w
@@ -120,7 +119,7 @@ module _ (size : ℕ → ℕ) where
       run_named g hs x.world (hear_lines s (lines_of w x)) first.kept (step_up w h.event h.lucks up)
       (step_named size g w s kept k h.event h.lucks (first_fits w h.event es sizes g s kept k))
       (λ table none. awaits table (first.there table none) ∙ scheme_on client_law client_grows lapsed_grows fresh_part g w h.event h.lucks es table none)
-      (λ table none. sizes table (first.there table none) ∙ size_on w h.event h.lucks es table none)
+      (λ table none. sizes table (first.there table none) ∙ ap chunk_in (schema_on w h.event h.lucks es table none))
 
   start_named : IsNamedWorld size start
   start_named = record {
@@ -137,7 +136,7 @@ pub all_stand : (hs : List Happening) → NamesStand (world_from start hs)
 all_stand hs =
     let es : List Event = map (λ (turn : Turn). turn.event) (turns_from start hs) in
     let g : ℕ → Scheme = scheme_for es in
-    let run = run_named (size_for es) g hs start nothing_said (start_kept client_law client_grows lapsed_grows fresh_part g) start_up (start_named (size_for es))
+    let run = run_named (sizes_in es) g hs start nothing_said (start_kept client_law client_grows lapsed_grows fresh_part g) start_up (start_named (sizes_in es))
     (λ table none. ap (λ (ds : List Event). scheme_for ds table) (events_are hs start))
-    (λ table none. ap (λ (ds : List Event). size_for ds table) (events_are hs start)) in
-    names_stand (size_for es) (world_from start hs) run.0 run.1
+    (λ table none. ap (λ (ds : List Event). sizes_in ds table) (events_are hs start)) in
+    names_stand (sizes_in es) (world_from start hs) run.0 run.1

@@ -13,7 +13,7 @@ use Rattle.step_tables.specs.Messages as messages
 use Rattle.step_tables.specs.StoreMoves.{StoreTask, StoreStep}
 use Rattle.step_tables.specs.ClientMoves.{Client, ClientStep, ClientMove}
 use Rattle.step_tables.proofs.Lists.{among_none, among_cons, among_here, among_next, among_left, among_right, among_either, among_cases}
-use Rattle.world_tables.specs.World.{World, Packet, Hosted, the_store, schema_at, hosted_at, client_at, address, packets_from, history_on, after_table, moved_client}
+use Rattle.world_tables.specs.World.{World, Packet, Hosted, owner_of, schema_at, hosted_at, client_at, address, packets_from, history_on, after_table, moved_client}
 use Rattle.world_laws.proofs.Looks.{look_cases}
 use Rattle.piece_laws.specs.Pieces.{items_in, items_at, request_in, requests_of, asked_in, IsDead, KeepsNone, GoTogether, IsOfRequest, IsOfOne, IsNeeded, IsOutcome, IsHeaderOf, IsHeader, IsKnown}
 use Rattle.piece_laws.proofs.Linked.{AreLinked, push_linked}
@@ -29,9 +29,9 @@ pub requests_both : (xs ys : List Packet) → requests_of (xs ++ ys) ≡ request
 requests_both [] ys = refl
 requests_both (x ∷ xs) ys = ap (λ (l : List Request). request_in x.message ++ l) (requests_both xs ys) ∙ sym (append_assoc (request_in x.message) (requests_of xs) (requests_of ys))
 
-pub requests_sent : (from : Node) (sends : List Send) → requests_of (packets_from from sends) ≡ requests_in sends
-requests_sent from [] = refl
-requests_sent from (send ∷ sends) = ap (λ (l : List Request). request_in send.message ++ l) (requests_sent from sends)
+pub requests_sent : (owners : ℕ → ℕ) (from : Node) (sends : List Send) → requests_of (packets_from owners from sends) ≡ requests_in sends
+requests_sent owners from [] = refl
+requests_sent owners from (send ∷ sends) = ap (λ (l : List Request). request_in send.message ++ l) (requests_sent owners from sends)
 
 pub request_there : (packets : List Packet) (p : Packet) (q : Request) → Among packets p → p.message ≡ SyncRequest q → Among (requests_of packets) q
 request_there [] p q a is = absurd (among_none p a)
@@ -55,12 +55,12 @@ there_request (x ∷ packets) q a = ⊎_elim
     by_message (TornRowRequest torn) b = absurd (among_none q b)
     by_message (TornRowResponse answer) b = absurd (among_none q b)
 
-sent_packet : (from : Node) (sends : List Send) (p : Packet) → Among (packets_from from sends) p → (send : Send) × Among sends send × (p.message ≡ send.message)
-sent_packet from [] p a = absurd (among_none p a)
-sent_packet from (send ∷ sends) p a = ⊎_elim
+sent_packet : (owners : ℕ → ℕ) (from : Node) (sends : List Send) (p : Packet) → Among (packets_from owners from sends) p → (send : Send) × Among sends send × (p.message ≡ send.message)
+sent_packet owners from [] p a = absurd (among_none p a)
+sent_packet owners from (send ∷ sends) p a = ⊎_elim
     (λ same. (send, among_here send sends, ap (λ (y : Packet). y.message) (sym same)))
-    (λ more. let r = sent_packet from sends p more in (r.0, among_next send sends r.0 r.1, r.2))
-    (among_cons (record { from = from; to = address send.to; message = send.message }) (packets_from from sends) p a)
+    (λ more. let r = sent_packet owners from sends p more in (r.0, among_next send sends r.0 r.1, r.2))
+    (among_cons (record { from = from; to = address owners send.to send.message; message = send.message }) (packets_from owners from sends) p a)
 
 -- ---- what a world keeps
 
@@ -318,17 +318,17 @@ module _ (size : ℕ → ℕ) where
         (look_cases w.clients c s.client q));
     packets = λ p a. subst (λ (l : List Request). IsKnown size (items_at w) l p.message) (sym asked) (⊎_elim
         (λ old. known_more (items_at w) (asked_in w) (requests_in s.sends) p.message (k.packets p old))
-        (λ new. let r = sent_packet (nodes.Client c) s.sends p new in
+        (λ new. let r = sent_packet (owner_of w) (nodes.Client c) s.sends p new in
         subst (IsKnown size (items_at w) all) (sym r.2) (sends_known c (items_at w) all (asked_in w) s.sends step.sends r.0 r.1))
-        (among_either w.packets (packets_from (nodes.Client c) s.sends) p a));
+        (among_either w.packets (packets_from (owner_of w) (nodes.Client c) s.sends) p a));
     pairs = subst (Pairs (items_at w)) (sym asked) (pairs_sends c (items_at w) (asked_in w) s.sends k.pairs step.sends);
   }
     where
       all : List Request
       all = asked_in w ++ requests_in s.sends
 
-      asked : requests_of (w.packets ++ packets_from (nodes.Client c) s.sends) ≡ all
-      asked = requests_both w.packets (packets_from (nodes.Client c) s.sends) ∙ ap (λ (l : List Request). asked_in w ++ l) (requests_sent (nodes.Client c) s.sends)
+      asked : requests_of (w.packets ++ packets_from (owner_of w) (nodes.Client c) s.sends) ≡ all
+      asked = requests_both w.packets (packets_from (owner_of w) (nodes.Client c) s.sends) ∙ ap (λ (l : List Request). asked_in w ++ l) (requests_sent (owner_of w) (nodes.Client c) s.sends)
 
       within : (q : ℕ) → q ≢ c → (r : Request) → Among all r → r.client ≡ q → Among (asked_in w) r
       within q apart r a is = ⊎_elim (λ old. old) (λ new. absurd (apart (sym is ∙ of_client c (items_at w) (asked_in w) s.sends step.sends r new))) (among_either (asked_in w) (requests_in s.sends) r a)
@@ -397,22 +397,25 @@ module _ (size : ℕ → ℕ) where
     clients = λ c node is. subst (λ (l : List Request). IsNamedClient size c later l node) (sym asked) (client_later size c (items_at w) later (asked_in w) node became (k.clients c node is));
     packets = λ p a. subst (λ (l : List Request). IsKnown size later l p.message) (sym asked) (⊎_elim
         (λ old_one. known_later (items_at w) later (asked_in w) became k.pairs p.message (k.packets p old_one))
-        (λ new_one. let r = sent_packet the_store s.sends p new_one in
+        (λ new_one. let r = sent_packet (owner_of w) node s.sends p new_one in
         subst (IsKnown size later (asked_in w)) (sym r.2) (answers_known later (asked_in w) table s.sends
         (subst (λ (l : List Stored). AreKnown (size table) (asked_in w) table l s.sends) (sym here) move.known) r.0 r.1))
-        (among_either w.packets (packets_from the_store s.sends) p a));
+        (among_either w.packets (packets_from (owner_of w) node s.sends) p a));
     pairs = subst (Pairs later) (sym asked) (pairs_later (items_at w) later (asked_in w) became k.pairs);
   }
     where
+      node : Node
+      node = nodes.Store (owner_of w table)
+
       new : Hosted
       new = record { store = s.store; history = history_on hosted.history s.facts; made = hosted.made }
 
       later : ℕ → List Stored
       later q = items_in (lookup (is_at (nat_cmp q)) (insert_entry nat_cmp w.tables table new))
 
-      asked : requests_of (w.packets ++ packets_from the_store s.sends) ≡ asked_in w
-      asked = requests_both w.packets (packets_from the_store s.sends)
-          ∙ (ap (λ (l : List Request). asked_in w ++ l) (requests_sent the_store s.sends ∙ answers_none (asked_in w) table s.store.disk.items s.sends move.known) ∙ append-nil (asked_in w))
+      asked : requests_of (w.packets ++ packets_from (owner_of w) node s.sends) ≡ asked_in w
+      asked = requests_both w.packets (packets_from (owner_of w) node s.sends)
+          ∙ (ap (λ (l : List Request). asked_in w ++ l) (requests_sent (owner_of w) node s.sends ∙ answers_none (asked_in w) table s.store.disk.items s.sends move.known) ∙ append-nil (asked_in w))
 
       here : later table ≡ s.store.disk.items
       here = ⊎_elim (λ e. ap items_in e.1) (λ e. absurd (e.0 refl)) (look_cases w.tables table new table)

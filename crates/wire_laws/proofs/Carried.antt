@@ -1,7 +1,8 @@
 -- What a node of the wire is handed for a part, as a delivery of a whole packet.
-use Rattle.std.proofs.Common.{◌≡◌, ◌≢◌, ◌⊎◌, inl, inr, ⊎_elim, ℕ, Bool, true, false, List, [], ◌∷◌, Option, Some, None, refl, sym, ◌∙◌, ap, subst, true≢false}
-use Rattle.std.specs.Prelude.{◌&&◌, not, if◌then◌else◌}
+use Rattle.std.proofs.Common.{◌≡◌, ◌≢◌, ◌⊎◌, inl, inr, ⊎_elim, ℕ, Bool, true, false, List, [], ◌∷◌, Option, Some, None, refl, sym, ◌∙◌, ap, subst, arith, true≢false}
+use Rattle.std.specs.Prelude.{◌==◌, ◌&&◌, not, if◌then◌else◌}
 use Rattle.std.proofs.lemmas.Bool.{and_parts}
+use Rattle.std.proofs.lemmas.Bool.Decides.{nat_tests}
 use Rattle.stab_base.specs.declared.node.Node.{Node}
 use Rattle.stab_base.specs.declared.node.Node.TheVariants as nodes
 use Rattle.row_value.specs.declared.schema.Scheme.{Scheme}
@@ -18,12 +19,14 @@ use Rattle.step_tables.proofs.Lists.{among_get}
 use Rattle.world_tables.specs.Passed.{taken_by, taken_from}
 use Rattle.world_tables.specs.Ready.{is_idle, is_idle_table, is_idle_client, is_table_ready, is_client_ready}
 use Rattle.world_tables.specs.Turns.{Happening}
-use Rattle.world_tables.specs.World.{World, Packet, Hosted, Lucks, WorldStep, owner, the_store, schema_at, scheme_in, chunk_in, hosted_at, client_at, is_down, is_cut, is_client_down}
+use Rattle.world_tables.specs.World.{World, Packet, Hosted, Lucks, WorldStep, owner_of, hosted_by, schema_at, scheme_in, chunk_in, hosted_at, client_at, is_down, is_cut, is_client_down}
 use Rattle.world_tables.specs.World.{history_on, table_step, move_hosted, move_table, answering, failing, store_falls, client_falls, first_luck, other_lucks, refused}
 use Rattle.world_tables.specs.World.{take_read, take_at, to_hosted, unless_down, reads, call_there, call, to_there, carried, delivered}
 use Rattle.world_tables.specs.World as world
 use Rattle.world_laws.proofs.Looks.{look_cases}
-use Rattle.name_laws.proofs.Plain.{IsPlace}
+use Rattle.world_laws.proofs.Owners.{hosted_by_is, hosted_by_owner}
+use Rattle.name_laws.specs.Owners.{WasOwner}
+use Rattle.name_laws.proofs.Moves.{IsAddressed}
 use Rattle.fair_laws.specs.Reached.{IsReached}
 use Rattle.part_tables.specs.StoreParts as at_store
 use Rattle.part_tables.specs.StoreParts.{StoreTaken}
@@ -59,7 +62,7 @@ not_true true e = absurd (true≢false (sym e))
 not_true false e = refl
 
 record IsReadyStore (w : World) (table : ℕ) : Type 0 where
-  up : is_down w the_store ≡ false
+  up : is_down w (nodes.Store (owner_of w table)) ≡ false
   hosted : Hosted
   there : hosted_at w table ≡ Some hosted
   idle : hosted.store.agenda ≡ Some []
@@ -67,13 +70,16 @@ record IsReadyStore (w : World) (table : ℕ) : Type 0 where
 ready_store : (w : World) (table : ℕ) → is_table_ready w table ≡ true → IsReadyStore w table
 ready_store w table ready = go (hosted_at w table) refl
   where
-    parts : (not (is_down w the_store) ≡ true) × (is_idle_table (hosted_at w table) ≡ true)
-    parts = and_parts (not (is_down w the_store)) (is_idle_table (hosted_at w table)) ready
+    down : Bool
+    down = is_down w (nodes.Store (owner_of w table))
+
+    parts : (not down ≡ true) × (is_idle_table (hosted_at w table) ≡ true)
+    parts = and_parts (not down) (is_idle_table (hosted_at w table)) ready
 
     go : (o : Option Hosted) → hosted_at w table ≡ o → IsReadyStore w table
     go None at = absurd (true≢false (sym parts.1 ∙ ap is_idle_table at))
     go (Some hosted) at = record {
-      up = not_true (is_down w the_store) parts.0;
+      up = not_true down parts.0;
       hosted = hosted;
       there = at;
       idle = idle_is hosted.store.agenda (sym (ap is_idle_table at) ∙ parts.1);
@@ -154,6 +160,14 @@ same_tables w table from q = go (hosted_at w table) refl
             let s = table_step w table hosted (store.Take from (any_of table)) in
             record { store = s.store; history = history_on hosted.history s.facts; made = hosted.made }
 
+-- a Store that doesn't keep it takes nothing
+same_taken : (w : World) (table number : ℕ) (from to : Node) → HaveSameTables w (taken_by w (record { from = from; to = to; message = any_of table }) (nodes.Store number))
+same_taken w table number from to = go (owner_of w table == number)
+  where
+    go : (b : Bool) → HaveSameTables w (if b then (move_table table (store.Take from (any_of table)) w).world else w)
+    go true q = same_tables w table from q
+    go false q = refl
+
 -- ---- a part that was sent
 
 module _ (v : Wire) (number : ℕ) (p : PartPacket) (s : IsSent v number p) where
@@ -178,9 +192,10 @@ module _ (v : Wire) (number : ℕ) (p : PartPacket) (s : IsSent v number p) wher
   same : table_of h.packet.message ≡ table
   same = sym (same_table (size_in w (table_of h.packet.message)) h.packet.message p.part (part_of (size_in w (table_of h.packet.message)) h.packet.message p.part h.part))
 
-  -- there is one Store
-  pub one_store : (n : ℕ) → p.to ≡ nodes.Store n → n ≡ owner
-  one_store n here = subst IsPlace (sym h.to ∙ here) (g.fine.places h.packet h.stands).1
+  -- it goes to the owner that its table had
+  pub was_owner : (n : ℕ) → p.to ≡ nodes.Store n → WasOwner w.stores (schema_at w table) n
+  was_owner n here =
+      subst (λ (t : ℕ). WasOwner w.stores (schema_at w t) n) same (subst (λ (to : Node). IsAddressed w h.packet to) (sym h.to ∙ here) (g.fine.places h.packet h.stands)).1
 
   brought_is : (to : Node) → p.to ≡ to → (lucks : Lucks) → wire_step v (events.Deliver number) lucks ≡ brought v p lucks to
   brought_is to here lucks = ap (wire.delivered v lucks) s.at ∙ ap (brought v p lucks) here
@@ -204,42 +219,43 @@ module _ (v : Wire) (number : ℕ) (p : PartPacket) (s : IsSent v number p) wher
     abbrev any : Packet
     any = record { from = p.from; to = nodes.Store n; message = any_of table }
 
-    up_here : is_down w the_store ≡ false → is_down w (nodes.Store n) ≡ false
-    up_here up = ap (λ (k : ℕ). is_down w (nodes.Store k)) (one_store n here) ∙ up
-
     store_untaken : ((lucks : Lucks) → carried w any lucks.shape lucks.calls (nodes.Store n) ≡ carried w h.packet lucks.shape lucks.calls (nodes.Store n))
         → ((lucks : Lucks) → brought v p lucks (nodes.Store n) ≡ untaken v p lucks) → IsUntaken v number p
-    store_untaken alike is = untaken_by (nodes.Store n) here alike (same_tables w table p.from) is
+    store_untaken alike is = untaken_by (nodes.Store n) here alike (same_taken w table n p.from (nodes.Store n)) is
 
     down_untaken : is_down w (nodes.Store n) ≡ true → IsUntaken v number p
     down_untaken down = store_untaken (λ lucks. stores.down_carried w n table lucks any h.packet refl same down)
-        (λ lucks. ap (λ (b : Bool). if b then untaken v p lucks else by_hosted v p lucks (hosted_at w table)) down)
+        (λ lucks. ap (λ (b : Bool). if b then untaken v p lucks else by_hosted v p lucks (hosted_by w n table)) down)
 
     module _ (up : is_down w (nodes.Store n) ≡ false) where
-      up_brought : (lucks : Lucks) → brought v p lucks (nodes.Store n) ≡ by_hosted v p lucks (hosted_at w table)
-      up_brought lucks = ap (λ (b : Bool). if b then untaken v p lucks else by_hosted v p lucks (hosted_at w table)) up
+      up_brought : (lucks : Lucks) → brought v p lucks (nodes.Store n) ≡ by_hosted v p lucks (hosted_by w n table)
+      up_brought lucks = ap (λ (b : Bool). if b then untaken v p lucks else by_hosted v p lucks (hosted_by w n table)) up
 
-      up_untaken : ((lucks : Lucks) → to_hosted w table (store.Take p.from (any_of table)) lucks.calls (hosted_at w table) ≡ to_hosted w table (store.Take h.packet.from h.packet.message) lucks.calls (hosted_at w table))
-          → ((lucks : Lucks) → by_hosted v p lucks (hosted_at w table) ≡ untaken v p lucks) → IsUntaken v number p
+      up_untaken : ((lucks : Lucks) → to_hosted w table (store.Take p.from (any_of table)) lucks.calls (hosted_by w n table)
+          ≡ to_hosted w table (store.Take h.packet.from h.packet.message) lucks.calls (hosted_by w n table))
+          → ((lucks : Lucks) → by_hosted v p lucks (hosted_by w n table) ≡ untaken v p lucks) → IsUntaken v number p
       up_untaken alike is = store_untaken (λ lucks. stores.carried_same w n table lucks any h.packet refl same (alike lucks)) (λ lucks. up_brought lucks ∙ is lucks)
 
-      none_untaken : hosted_at w table ≡ None → IsUntaken v number p
+      none_untaken : hosted_by w n table ≡ None → IsUntaken v number p
       none_untaken none = up_untaken
           (λ lucks. ap (to_hosted w table (store.Take p.from (any_of table)) lucks.calls) none ∙ sym (ap (to_hosted w table (store.Take h.packet.from h.packet.message) lucks.calls) none))
           (λ lucks. ap (by_hosted v p lucks) none)
 
-      module _ (hosted : Hosted) (there : hosted_at w table ≡ Some hosted) where
+      module _ (hosted : Hosted) (by : hosted_by w n table ≡ Some hosted) where
+        abbrev there : hosted_at w table ≡ Some hosted
+        there = (hosted_by_is w n table hosted by).1
+
         at_agenda : (agenda : Option (List StoreTask)) → hosted.store.agenda ≡ agenda → (lucks : Lucks)
-            → by_hosted v p lucks (hosted_at w table) ≡ by_hosted v p lucks (Some (record hosted { store = record hosted.store { agenda = agenda } }))
+            → by_hosted v p lucks (hosted_by w n table) ≡ by_hosted v p lucks (Some (record hosted { store = record hosted.store { agenda = agenda } }))
         at_agenda agenda is lucks =
-            ap (by_hosted v p lucks) there ∙ ap (λ (a : Option (List StoreTask)). by_hosted v p lucks (Some (record hosted { store = record hosted.store { agenda = a } }))) is
+            ap (by_hosted v p lucks) by ∙ ap (λ (a : Option (List StoreTask)). by_hosted v p lucks (Some (record hosted { store = record hosted.store { agenda = a } }))) is
 
         step_untaken : table_step w table hosted (store.Take p.from (any_of table)) ≡ table_step w table hosted (store.Take h.packet.from h.packet.message)
-            → ((lucks : Lucks) → by_hosted v p lucks (hosted_at w table) ≡ untaken v p lucks) → IsUntaken v number p
+            → ((lucks : Lucks) → by_hosted v p lucks (hosted_by w n table) ≡ untaken v p lucks) → IsUntaken v number p
         step_untaken alike is = up_untaken
-            (λ lucks. ap (to_hosted w table (store.Take p.from (any_of table)) lucks.calls) there
+            (λ lucks. ap (to_hosted w table (store.Take p.from (any_of table)) lucks.calls) by
             ∙ (stores.taken_same w table lucks.calls (store.Take p.from (any_of table)) (store.Take h.packet.from h.packet.message) hosted there alike
-            ∙ sym (ap (to_hosted w table (store.Take h.packet.from h.packet.message) lucks.calls) there)))
+            ∙ sym (ap (to_hosted w table (store.Take h.packet.from h.packet.message) lucks.calls) by)))
             is
 
         agenda_untaken : (agenda : Option (List StoreTask)) → hosted.store.agenda ≡ agenda → is_idle agenda ≡ false → IsUntaken v number p
@@ -248,19 +264,24 @@ module _ (v : Wire) (number : ℕ) (p : PartPacket) (s : IsSent v number p) wher
         agenda_untaken (Some (task ∷ more)) is busy =
             step_untaken (stores.busy_step w table hosted p.from h.packet.from (any_of table) h.packet.message task more is) (λ lucks. at_agenda (Some (task ∷ more)) is lucks)
 
-      idle_untaken : is_idle_table (hosted_at w table) ≡ false → IsUntaken v number p
-      idle_untaken busy = go (hosted_at w table) refl
-        where
-          go : (o : Option Hosted) → hosted_at w table ≡ o → IsUntaken v number p
-          go None at = none_untaken at
-          go (Some hosted) at = agenda_untaken hosted at hosted.store.agenda refl (sym (ap is_idle_table at) ∙ busy)
+        busy_untaken : is_table_ready w table ≡ false → IsUntaken v number p
+        busy_untaken ready = agenda_untaken hosted.store.agenda refl
+            (sym (ap is_idle_table there)
+            ∙ (sym (ap (λ (b : Bool). not b && is_idle_table (hosted_at w table)) (ap (λ (k : ℕ). is_down w (nodes.Store k)) (hosted_by_is w n table hosted by).0 ∙ up)) ∙ ready))
 
-    to_store : is_table_ready w table ≡ false → IsUntaken v number p
-    to_store ready = go (is_down w the_store) refl
+        kept_here : (owner_of w table == n) ≡ false → ⊥
+        kept_here apart = true≢false (sym (let own : (owner_of w table == n) ≡ true = grind (arith, nat_tests, (hosted_by_is w n table hosted by).0) in own) ∙ apart)
+
+    to_store : TakesNothing w table (nodes.Store n) → IsUntaken v number p
+    to_store nothing = go (is_down w (nodes.Store n)) refl
       where
-        go : (b : Bool) → is_down w the_store ≡ b → IsUntaken v number p
-        go true down = down_untaken (ap (λ (k : ℕ). is_down w (nodes.Store k)) (one_store n here) ∙ down)
-        go false up = idle_untaken (up_here up) (sym (ap (λ (b : Bool). not b && is_idle_table (hosted_at w table)) up) ∙ ready)
+        at : (up : is_down w (nodes.Store n) ≡ false) (o : Option Hosted) → hosted_by w n table ≡ o → IsUntaken v number p
+        at up None none = none_untaken up none
+        at up (Some hosted) by = ⊎_elim (λ ready. busy_untaken up hosted by ready) (λ apart. absurd (kept_here up hosted by apart)) nothing
+
+        go : (b : Bool) → is_down w (nodes.Store n) ≡ b → IsUntaken v number p
+        go true down = down_untaken down
+        go false up = at up (hosted_by w n table) refl
 
   -- ---- to a client
 
@@ -336,14 +357,17 @@ module _ (v : Wire) (number : ℕ) (p : PartPacket) (s : IsSent v number p) wher
   untaken_as (nodes.Client c) here nothing = to_client c here nothing
   untaken_as (nodes.Gate gate) here nothing = to_gate gate here
 
-  -- ---- a Store that takes the part
+  -- ---- the owner takes the part
 
-  module _ (n : ℕ) (here : p.to ≡ nodes.Store n) (ready : is_table_ready w table ≡ true) (hosted : Hosted) (there : hosted_at w table ≡ Some hosted) where
+  module _ (here : p.to ≡ nodes.Store (owner_of w table)) (ready : is_table_ready w table ≡ true) (hosted : Hosted) (there : hosted_at w table ≡ Some hosted) where
+    abbrev n : ℕ
+    n = owner_of w table
+
     r : IsReadyStore w table
     r = ready_store w table ready
 
-    is_up : is_down w (nodes.Store n) ≡ false
-    is_up = ap (λ (k : ℕ). is_down w (nodes.Store k)) (one_store n here) ∙ r.up
+    by : hosted_by w n table ≡ Some hosted
+    by = hosted_by_owner w n table refl ∙ there
 
     idle : hosted.store.agenda ≡ Some []
     idle = ap (λ (x : Hosted). x.store.agenda) (some_hosted hosted r.hosted (sym there ∙ r.there)) ∙ r.idle
@@ -352,19 +376,22 @@ module _ (v : Wire) (number : ℕ) (p : PartPacket) (s : IsSent v number p) wher
     x = parted_at v p hosted.store.disk.items
 
     taken_is : (lucks : Lucks) → wire_step v (events.Deliver number) lucks ≡ store_taken v p lucks x
-    taken_is lucks = brought_is (nodes.Store n) here lucks ∙ (up_brought n here is_up lucks ∙ at_agenda n here is_up hosted there (Some []) idle lucks)
+    taken_is lucks = brought_is (nodes.Store n) here lucks ∙ (up_brought n here r.up lucks ∙ at_agenda n here r.up hosted by (Some []) idle lucks)
+
+    abbrev took : (q : ℕ) (from : Node) (m : Message) → World
+    took q from m = if owner_of w q == n then (move_table q (store.Take from m) w).world else w
 
     store_whole : (m : Message) → x.taken ≡ at_store.Whole m → IsCarriedAs w p.from (nodes.Store n) m
     store_whole m is =
-        let t = stores.completes_as v g k number p s.at world.no_lucks h n here hosted there idle m is in
+        let t = stores.completes_as v g k number p s.at world.no_lucks h n here hosted by idle m is in
         carried_as w p.from (nodes.Store n) m t.packet t.stands (t.to ∙ here)
         (λ lucks. stores.carried_same w n table lucks (record { from = p.from; to = nodes.Store n; message = m }) t.packet t.table_m t.table_is
-        (ap (to_hosted w table (store.Take p.from m) lucks.calls) there
+        (ap (to_hosted w table (store.Take p.from m) lucks.calls) by
         ∙ (stores.taken_same w table lucks.calls (store.Take p.from m) (store.Take t.packet.from t.packet.message) hosted there t.step
-        ∙ sym (ap (to_hosted w table (store.Take t.packet.from t.packet.message) lucks.calls) there))))
-        (inl (ap (λ (q : ℕ). (move_table q (store.Take p.from m) w).world) t.table_m
-        ∙ (ap (λ (y : world.Moved). y.world) (stores.moved_same w table [] (store.Take p.from m) (store.Take t.packet.from t.packet.message) hosted there t.step)
-        ∙ sym (ap (λ (q : ℕ). (move_table q (store.Take t.packet.from t.packet.message) w).world) t.table_is))))
+        ∙ sym (ap (to_hosted w table (store.Take t.packet.from t.packet.message) lucks.calls) by))))
+        (inl (ap (λ (q : ℕ). took q p.from m) t.table_m
+        ∙ (ap (λ (y : world.Moved). if owner_of w table == n then y.world else w) (stores.moved_same w table [] (store.Take p.from m) (store.Take t.packet.from t.packet.message) hosted there t.step)
+        ∙ sym (ap (λ (q : ℕ). took q t.packet.from t.packet.message) t.table_is))))
         t.fit
 
     pub store_as : IsAtStore v number p hosted
@@ -413,7 +440,10 @@ module _ (v : Wire) (number : ℕ) (p : PartPacket) (s : IsSent v number p) wher
   past_down : (node : Node) (x : WorldStep) → is_down w node ≡ false → unless_down w node x ≡ x
   past_down node x up = ap (λ (b : Bool). if b then refused w (facts.NodeDown node) else x) up
 
-  module _ (lucks : Lucks) (n : ℕ) (here : p.to ≡ nodes.Store n) (ready : is_table_ready w table ≡ true) (fails : first_luck lucks.calls ≢ messages.Done) where
+  module _ (lucks : Lucks) (here : p.to ≡ nodes.Store (owner_of w table)) (ready : is_table_ready w table ≡ true) (fails : first_luck lucks.calls ≢ messages.Done) where
+    abbrev owner : ℕ
+    owner = owner_of w table
+
     abbrev fallen_store : WorldStep
     fallen_store = answering facts.Done (failing (store_falls owner w))
 
@@ -425,16 +455,16 @@ module _ (v : Wire) (number : ℕ) (p : PartPacket) (s : IsSent v number p) wher
     read_falls hosted move rest messages.FailedBefore f = refl
     read_falls hosted move rest messages.FailedAfter f = refl
 
-    table_falls_in : (move : StoreMove) → to_hosted w table move lucks.calls (hosted_at w table) ≡ fallen_store
+    table_falls_in : (move : StoreMove) → to_hosted w table move lucks.calls (hosted_by w owner table) ≡ fallen_store
     table_falls_in move =
-        ap (to_hosted w table move lucks.calls) at_rest.there
+        ap (to_hosted w table move lucks.calls) (hosted_by_owner w owner table refl ∙ at_rest.there)
         ∙ (ap (take_at w table at_rest.hosted move lucks.calls) at_rest.idle
         ∙ read_falls at_rest.hosted move (other_lucks lucks.calls) (first_luck lucks.calls) fails)
 
-    store_carries : (x : Packet) → table_of x.message ≡ table → carried w x lucks.shape lucks.calls (nodes.Store n) ≡ fallen_store
+    store_carries : (x : Packet) → table_of x.message ≡ table → carried w x lucks.shape lucks.calls (nodes.Store owner) ≡ fallen_store
     store_carries x tx =
-        past_down (nodes.Store n) _ (ap (λ (k : ℕ). is_down w (nodes.Store k)) (one_store n here) ∙ at_rest.up)
-        ∙ (ap (λ (t : ℕ). to_hosted w t (store.Take x.from x.message) lucks.calls (hosted_at w t)) tx ∙ table_falls_in (store.Take x.from x.message))
+        past_down (nodes.Store owner) _ at_rest.up
+        ∙ (ap (λ (t : ℕ). to_hosted w t (store.Take x.from x.message) lucks.calls (hosted_by w owner t)) tx ∙ table_falls_in (store.Take x.from x.message))
 
     store_fallen : (kept : Wire) → kept.world ≡ w → kept.packets ≡ v.packets → kept.arriving ≡ v.arriving → ((t : ℕ) → t ≢ table → gathered_at kept t ≡ gathered_at v t)
         → wire_step v (events.Deliver number) lucks ≡ spread kept fallen_store → IsFallenStore v number lucks table
@@ -460,11 +490,11 @@ module _ (v : Wire) (number : ℕ) (p : PartPacket) (s : IsSent v number p) wher
         x = parted_at v p at_rest.hosted.store.disk.items
 
         step_at : (t : at_store.Taken) → x.taken ≡ t → wire_step v (events.Deliver number) lucks ≡ store_taken v p lucks (record x { taken = t })
-        step_at t is = taken_is n here ready at_rest.hosted at_rest.there lucks ∙ ap (λ (y : at_store.Taken). store_taken v p lucks (record x { taken = y })) is
+        step_at t is = taken_is here ready at_rest.hosted at_rest.there lucks ∙ ap (λ (y : at_store.Taken). store_taken v p lucks (record x { taken = y })) is
 
         go : (t : at_store.Taken) → x.taken ≡ t → IsFallenStore v number lucks table
         go (at_store.Whole m) is =
-            let t = stores.completes_as v g k number p s.at lucks h n here at_rest.hosted at_rest.there at_rest.idle m is in
+            let t = stores.completes_as v g k number p s.at lucks h owner here at_rest.hosted (hosted_by_owner w owner table refl ∙ at_rest.there) at_rest.idle m is in
             store_fallen (with_gathered table x.gatherings v) refl refl refl
             (λ q other. ⊎_elim (λ e. absurd (other e.0)) (λ e. ap or_no_gatherings e.1) (look_cases v.gathered table x.gatherings q))
             (step_at (at_store.Whole m) is

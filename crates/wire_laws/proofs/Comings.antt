@@ -15,7 +15,7 @@ use Rattle.wire_tables.specs.Wire.{PartPacket, Wire, WireStep, spread, still}
 use Rattle.wire_laws.specs.Alike.{IsEventAlike, IsLone}
 use Rattle.wire_laws.proofs.Places.{place_of}
 use Rattle.wire_laws.proofs.SpreadLines.{to_of, whole_to}
-use Rattle.wire_laws.proofs.Keeping.{IsKept}
+use Rattle.wire_laws.proofs.Keeping.{IsKept, NoneJoins}
 
 -- the wire with other parts in memory
 abbrev pub beside : Wire → List (ℕ × List Gathering) → List (ℕ × Arriving) → Wire
@@ -27,6 +27,7 @@ pub record IsStepOf (v : Wire) (event : Event) (x : WireStep) : Type 0 where
   pub kept : IsKept (beside v gathered arriving)
   pub other : Event
   pub lucks : Lucks
+  pub joins : NoneJoins (beside v gathered arriving) other
   pub alike : IsEventAlike (to_of v.packets) (whole_to v.world.packets) event other
   pub is : x ≡ spread (beside v gathered arriving) (step v.world other lucks)
 
@@ -61,6 +62,7 @@ module _ (v : Wire) (number : ℕ) (p : PartPacket) (at : slice_get v.packets nu
         kept = kept;
         other = events.Deliver place.0;
         lucks = lucks;
+        joins = inl refl;
         alike = slice_get-map (λ (y : Packet). y.to) v.world.packets place.0
             ∙ (ap (option_map (λ (y : Packet). y.to)) place.1
             ∙ (ap (λ (n : Node). Some n) to ∙ sym (to_there v number p at)));

@@ -1,8 +1,8 @@
 -- What is known of a world that a run leads to, and what part_laws may take of it.
 use Rattle.std.proofs.Common.{◌≡◌, ⊎_elim, ℕ, ◌<◌, Bool, true, false, List, [], ◌∷◌, ◌++◌, Option, Some, None, refl, sym, ◌∙◌, ap, subst, arith}
-use Rattle.std.specs.Prelude.{◌==◌, if◌then◌else◌}
+use Rattle.std.specs.Prelude.{◌==◌, ◌&&◌, if◌then◌else◌}
 use Rattle.std.specs.List.{flat_map}
-use Rattle.std.proofs.lemmas.Bool.{eqb-true}
+use Rattle.std.proofs.lemmas.Bool.{and_parts, eqb-true}
 use Rattle.std.proofs.lemmas.Bool.Decides.{nat_tests}
 use Rattle.std.proofs.lemmas.Grind.{flat_map-append}
 use Rattle.stab_base.specs.declared.node.Node.{Node}
@@ -42,12 +42,12 @@ size_in w table = chunk_in (schema_at w table)
 
 -- ---- what was sent to a table at a Store, and to a client
 
-abbrev pub request_to : ℕ → Node → Message → List Request
-request_to table (nodes.Store number) (SyncRequest q) = if q.table == table then q ∷ [] else []
-request_to table to message = []
+abbrev pub request_to : ℕ → ℕ → Node → Message → List Request
+request_to store table (nodes.Store number) (SyncRequest q) = if number == store && q.table == table then q ∷ [] else []
+request_to store table to message = []
 
-abbrev pub requests_to : ℕ → List Packet → List Request
-requests_to table packets = flat_map (λ (p : Packet). request_to table p.to p.message) packets
+abbrev pub requests_to : ℕ → ℕ → List Packet → List Request
+requests_to store table packets = flat_map (λ (p : Packet). request_to store table p.to p.message) packets
 
 abbrev pub pulled_to : ℕ → Node → Message → List Pulled
 pulled_to c (nodes.Client number) (PullResponse p) = if number == c then p ∷ [] else []
@@ -73,25 +73,26 @@ only_if true x y a = refl
 only_if false x y a = absurd (among_none y a)
 
 -- the packet of a request that was sent to a table
-pub record IsRequestTo (table : ℕ) (packets : List Packet) (q : Request) : Type 0 where
+pub record IsRequestTo (store table : ℕ) (packets : List Packet) (q : Request) : Type 0 where
   pub packet : Packet
   pub stands : Among packets packet
-  pub store : ℕ
   pub to : packet.to ≡ nodes.Store store
   pub message : packet.message ≡ SyncRequest q
   pub table_is : q.table ≡ table
 
-request_from : (table : ℕ) (to : Node) (m : Message) (q : Request) → Among (request_to table to m) q → (store : ℕ) × (to ≡ nodes.Store store) × (m ≡ SyncRequest q) × (q.table ≡ table)
-request_from table (nodes.Store number) (SyncRequest r) q a =
-    let same = only_one (r.table == table) r q a (only_if (r.table == table) r q a) in
-    (number, refl, ap (λ (x : Request). SyncRequest x) same, sym (ap (λ (x : Request). x.table) same) ∙ eqb-true r.table table (only_if (r.table == table) r q a))
-request_from table to m q a = absurd (among_none q a)
+request_from : (store table : ℕ) (to : Node) (m : Message) (q : Request) → Among (request_to store table to m) q → (to ≡ nodes.Store store) × (m ≡ SyncRequest q) × (q.table ≡ table)
+request_from store table (nodes.Store number) (SyncRequest r) q a =
+    let here = only_if (number == store && r.table == table) r q a in
+    let same = only_one (number == store && r.table == table) r q a here in
+    let both = and_parts (number == store) (r.table == table) here in
+    (ap nodes.Store (eqb-true number store both.0), ap (λ (x : Request). SyncRequest x) same, sym (ap (λ (x : Request). x.table) same) ∙ eqb-true r.table table both.1)
+request_from store table to m q a = absurd (among_none q a)
 
-pub sent_request : (table : ℕ) (packets : List Packet) (q : Request) → Among (requests_to table packets) q → IsRequestTo table packets q
-sent_request table packets q a =
-    let r = flat_member (λ (p : Packet). request_to table p.to p.message) packets q a in
-    let is = request_from table r.0.to r.0.message q r.2 in
-    record { packet = r.0; stands = r.1; store = is.0; to = is.1; message = is.2; table_is = is.3 }
+pub sent_request : (store table : ℕ) (packets : List Packet) (q : Request) → Among (requests_to store table packets) q → IsRequestTo store table packets q
+sent_request store table packets q a =
+    let r = flat_member (λ (p : Packet). request_to store table p.to p.message) packets q a in
+    let is = request_from store table r.0.to r.0.message q r.2 in
+    record { packet = r.0; stands = r.1; to = is.0; message = is.1; table_is = is.2 }
 
 itself : (n : ℕ) → (n == n) ≡ true
 itself n = grind (arith, nat_tests)
@@ -99,12 +100,13 @@ itself n = grind (arith, nat_tests)
 if_same : {X : Type 0} (n k : ℕ) (x : X) → n ≡ k → Among (if n == k then x ∷ [] else []) x
 if_same {X} n k x e = subst (λ (b : Bool). Among (if b then x ∷ [] else []) x) (sym (ap (λ (m : ℕ). n == m) (sym e) ∙ itself n)) (among_here x [])
 
-pub request_sent : (table : ℕ) (packets : List Packet) (p : Packet) (q : Request) (store : ℕ) → Among packets p → p.to ≡ nodes.Store store → p.message ≡ SyncRequest q → q.table ≡ table
-    → Among (requests_to table packets) q
-request_sent table packets p q store a to message same =
-    member_flat (λ (x : Packet). request_to table x.to x.message) packets p q a
-    (subst (λ (n : Node). Among (request_to table n p.message) q) (sym to)
-    (subst (λ (m : Message). Among (request_to table (nodes.Store store) m) q) (sym message) (if_same q.table table q same)))
+pub request_sent : (store table : ℕ) (packets : List Packet) (p : Packet) (q : Request) → Among packets p → p.to ≡ nodes.Store store → p.message ≡ SyncRequest q → q.table ≡ table
+    → Among (requests_to store table packets) q
+request_sent store table packets p q a to message same =
+    member_flat (λ (x : Packet). request_to store table x.to x.message) packets p q a
+    (subst (λ (n : Node). Among (request_to store table n p.message) q) (sym to)
+    (subst (λ (m : Message). Among (request_to store table (nodes.Store store) m) q) (sym message)
+    (subst (λ (b : Bool). Among (if b && q.table == table then q ∷ [] else []) q) (sym (itself store)) (if_same q.table table q same))))
 
 -- the packets of answers to a client
 pub record IsPulledTo (c : ℕ) (packets : List Packet) (pulled : Pulled) : Type 0 where
@@ -172,22 +174,22 @@ module _ (w : World) (g : IsGround w) where
     pub one_name : NamesOne (size_in w table) (items_at w table)
     one_name = subst (λ (n : ℕ). NamesOne n (items_at w table)) (sym size_is) (g.names.one table schema at)
 
-    pub are_sent : AreSent (size_in w table) (items_at w table) (requests_to table w.packets)
-    are_sent = record {
+    pub are_sent : (store : ℕ) → AreSent (size_in w table) (items_at w table) (requests_to store table w.packets)
+    are_sent store = record {
       one = λ q r a b client row number.
-          let y = sent_request table w.packets r b in
+          let y = sent_request store table w.packets r b in
           (g.names.pairs q r (asked q a) (asked r b) client number schema (subst (λ (t : ℕ). schema_at w t ≡ Some schema) (sym y.table_is) at)).2;
       spelled = λ q a. (said q a).0;
       keeps = λ q a. (said q a).1;
     }
       where
-        asked : (q : Request) → Among (requests_to table w.packets) q → Among (asked_in w) q
-        asked q a = let x = sent_request table w.packets q a in request_there w.packets x.packet q x.stands x.message
+        asked : (q : Request) → Among (requests_to store table w.packets) q → Among (asked_in w) q
+        asked q a = let x = sent_request store table w.packets q a in request_there w.packets x.packet q x.stands x.message
 
-        said : (q : Request) → Among (requests_to table w.packets) q
+        said : (q : Request) → Among (requests_to store table w.packets) q
             → (is_spelled (size_in w table) q.content q.pieces ≡ true) × KeepsKnown (size_in w table) (items_at w table) q.row q.content q.pieces
         said q a =
-            let x = sent_request table w.packets q a in
+            let x = sent_request store table w.packets q a in
             subst (λ (n : ℕ). (is_spelled n q.content q.pieces ≡ true) × KeepsKnown n (items_at w table) q.row q.content q.pieces) (sym size_is)
             (subst (λ (t : ℕ). (is_spelled schema.chunk q.content q.pieces ≡ true) × KeepsKnown schema.chunk (items_at w t) q.row q.content q.pieces) x.table_is
             (g.names.requests q (asked q a) schema (subst (λ (t : ℕ). schema_at w t ≡ Some schema) (sym x.table_is) at)))

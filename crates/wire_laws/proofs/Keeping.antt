@@ -1,7 +1,7 @@
 -- What the wire keeps beside the world of its nodes: each part is of a whole packet, and what was gathered of them is of
 -- packets that were sent.
 use Rattle.std.proofs.Common.{◌≡◌, ◌⊎◌, inl, inr, ⊎_elim, ℕ, Bool, true, false, List, [], ◌∷◌, ◌++◌, Option, Some, None, refl, sym, ◌∙◌, ap, subst}
-use Rattle.std.specs.Prelude.{not, if◌then◌else◌}
+use Rattle.std.specs.Prelude.{if◌then◌else◌}
 use Rattle.std.specs.List.{AllByRecursion, flat_map}
 use Rattle.std.specs.Ordering.{nat_cmp}
 use Rattle.std.specs.Map.{lookup}
@@ -13,15 +13,15 @@ use Rattle.step_tables.specs.Members.{Among}
 use Rattle.step_tables.specs.Messages.{Request, Pulled, TornPulled, Header, Message, Luck, SyncRequest, SyncResponse, PullRequest, PullResponse, TornRowRequest, TornRowResponse, table_of}
 use Rattle.step_tables.specs.Messages as messages
 use Rattle.step_tables.proofs.Lists.{among_none, among_cons, among_left, among_right, among_either, among_mapped}
-use Rattle.world_tables.specs.World.{World, Packet, Outbox, WorldStep, Lucks, Hosted, owner, the_store, schema_at}
-use Rattle.world_tables.specs.World.{hosted_at, client_at, chunk_in, is_down, first_luck, store_falls, with_table, made_with, declared, step}
+use Rattle.world_tables.specs.World.{World, Packet, Outbox, WorldStep, Lucks, Hosted, owner_by, owner_of, schema_at}
+use Rattle.world_tables.specs.World.{hosted_at, client_at, chunk_in, first_luck, with_table, made_with, declared, step}
 use Rattle.part_tables.specs.Parts.{Part, PulledHead, TornHead, parts_of}
 use Rattle.part_tables.specs.StoreParts.{Gathering}
 use Rattle.part_tables.specs.ClientParts.{Answering}
 use Rattle.part_tables.specs.Arriving.{WholeRow, Arriving}
 use Rattle.world_laws.proofs.Looks.{look_cases}
-use Rattle.name_laws.proofs.Moves.{packets_in, store_falls_went}
-use Rattle.name_laws.proofs.Steps.{schemas_by, with_table_fine, step_stepped}
+use Rattle.name_laws.proofs.Moves.{packets_in}
+use Rattle.name_laws.proofs.Steps.{stores_by, schemas_by, step_stepped}
 use Rattle.part_laws.specs.Gathers.{IsGathered, Gathers}
 use Rattle.part_laws.specs.Answers.{IsAnswering, AreAnswering}
 use Rattle.part_laws.specs.Rows.{IsWholeRow, AreArriving}
@@ -42,9 +42,13 @@ pub record HasWhole (w : World) (p : PartPacket) : Type 0 where
   pub to : p.to ≡ packet.to
   pub part : Among (parts_of (size_in w (table_of packet.message)) packet.message) p.part
 
+-- the requests that were sent to a table at its owner
+abbrev pub sent_to : World → ℕ → List Request
+sent_to w table = requests_to (owner_of w table) table w.packets
+
 pub record IsKept (v : Wire) : Type 0 where
   pub parts : (p : PartPacket) → Among v.packets p → HasWhole v.world p
-  pub gathers : (table : ℕ) → Gathers (size_in v.world table) (requests_to table v.world.packets) (gathered_at v table)
+  pub gathers : (table : ℕ) → Gathers (size_in v.world table) (sent_to v.world table) (gathered_at v table)
   pub arriving : (c : ℕ) → AreArriving (size_in v.world) (down_to c v.world.packets) (arriving_at v c)
 
 -- ---- schemas stay
@@ -53,21 +57,15 @@ abbrev pub SchemasStay : World → World → Type 0
 SchemasStay w later = (table : ℕ) (schema : Schema) → schema_at w table ≡ Some schema → schema_at later table ≡ Some schema
 
 module _ (w : World) (g : IsGround w) where
-  with_stays : (table : ℕ) (new : Schema) (made up : Bool) → hosted_at w table ≡ None → SchemasStay w (with_table w table new made up)
-  with_stays table new made up none q schema at = ⊎_elim
+  with_stays : (table : ℕ) (new : Schema) (made : Bool) → hosted_at w table ≡ None → SchemasStay w (with_table w table new made)
+  with_stays table new made none q schema at = ⊎_elim
       (λ e. absurd (let both : Some schema ≡ None = sym at ∙ (ap (schema_at w) e.0 ∙ g.unhosted table none) in cc))
       (λ e. e.1 ∙ at) (look_cases w.schemas table new q)
 
-  fallen_stays : (table : ℕ) (new : Schema) → hosted_at w table ≡ None → SchemasStay w (store_falls owner (with_table w table new false false)).world
-  fallen_stays table new none q schema at =
-      let x : World = with_table w table new false false in
-      ap (λ (schemas : List (ℕ × Schema)). lookup (is_at (nat_cmp q)) schemas) (store_falls_went owner x (with_table_fine w table new false false g.fine)).schemas
-      ∙ with_stays table new false false none q schema at
-
   made_stays : (table : ℕ) (new : Schema) (luck : Luck) → hosted_at w table ≡ None → SchemasStay w (made_with w table new luck)
-  made_stays table new messages.Done none = with_stays table new true (not (is_down w the_store)) none
-  made_stays table new messages.FailedBefore none = fallen_stays table new none
-  made_stays table new messages.FailedAfter none = fallen_stays table new none
+  made_stays table new messages.Done none = with_stays table new true none
+  made_stays table new messages.FailedBefore none = with_stays table new false none
+  made_stays table new messages.FailedAfter none = with_stays table new false none
 
   declared_stays : (table : ℕ) (new : Schema) (luck : Luck) (o : Option Hosted) → hosted_at w table ≡ o → SchemasStay w (declared w table new luck o)
   declared_stays table new luck (Some hosted) there q schema at = at
@@ -120,22 +118,32 @@ module _ (w : World) (g : IsGround w) (later : World) (stay : SchemasStay w late
 
   -- ---- what was gathered of them
 
-  gathers_stay : (table : ℕ) (gs : List Gathering) → Gathers (size_in w table) (requests_to table w.packets) gs → Gathers (size_in later table) (requests_to table w.packets) gs
-  gathers_stay table [] all = tt
-  gathers_stay table (x ∷ gs) all = (subst (λ (n : ℕ). IsGathered n (requests_to table w.packets) x) (same all.0) all.0, gathers_stay table gs all.1)
-    where
-      same : IsGathered (size_in w table) (requests_to table w.packets) x → size_in w table ≡ size_in later table
-      same is =
-          let r = sent_request table w.packets is.request is.was_sent in
-          let d = g.requests r.packet is.request r.stands r.message in
-          size_stays table d.0 (subst (λ (t : ℕ). schema_at w t ≡ Some d.0) r.table_is d.1)
+  -- what was gathered is of a declared table
+  gathers_known : (table : ℕ) (x : Gathering) → IsGathered (size_in w table) (sent_to w table) x → (schema : Schema) × (schema_at w table ≡ Some schema)
+  gathers_known table x is =
+      let r = sent_request (owner_of w table) table w.packets is.request is.was_sent in
+      let d = g.requests r.packet is.request r.stands r.message in
+      (d.0, subst (λ (t : ℕ). schema_at w t ≡ Some d.0) r.table_is d.1)
 
-  more_gathers : (more : List Packet) → later.packets ≡ w.packets ++ more → (table : ℕ) (gs : List Gathering) → Gathers (size_in w table) (requests_to table w.packets) gs
-      → Gathers (size_in later table) (requests_to table later.packets) gs
-  more_gathers more packets table gs all =
-      subst (λ (l : List Packet). Gathers (size_in later table) (requests_to table l) gs) (sym packets)
-      (more_sent (size_in later table) (requests_to table w.packets) (requests_to table (w.packets ++ more))
-      (λ q a. sent_left (λ (p : Packet). request_to table p.to p.message) w.packets more q a) gs (gathers_stay table gs all))
+  gathers_stay : (table : ℕ) (gs : List Gathering) → Gathers (size_in w table) (sent_to w table) gs → Gathers (size_in later table) (sent_to w table) gs
+  gathers_stay table [] all = tt
+  gathers_stay table (x ∷ gs) all =
+      let d = gathers_known table x all.0 in
+      (subst (λ (n : ℕ). IsGathered n (sent_to w table) x) (size_stays table d.0 d.1) all.0, gathers_stay table gs all.1)
+
+  -- where no Store joins its owner stays
+  owner_stays : later.stores ≡ w.stores → (table : ℕ) (schema : Schema) → schema_at w table ≡ Some schema → owner_of w table ≡ owner_of later table
+  owner_stays same table schema at = ap (owner_by w.stores) (at ∙ sym (stay table schema at)) ∙ ap (λ (stores : List ℕ). owner_by stores (schema_at later table)) (sym same)
+
+  more_gathers : later.stores ≡ w.stores → (more : List Packet) → later.packets ≡ w.packets ++ more → (table : ℕ) (gs : List Gathering) → Gathers (size_in w table) (sent_to w table) gs
+      → Gathers (size_in later table) (sent_to later table) gs
+  more_gathers same more packets table [] all = tt
+  more_gathers same more packets table (x ∷ gs) all =
+      let d = gathers_known table x all.0 in
+      subst (λ (l : List Packet). Gathers (size_in later table) (requests_to (owner_of later table) table l) (x ∷ gs)) (sym packets)
+      (subst (λ (n : ℕ). Gathers (size_in later table) (requests_to n table (w.packets ++ more)) (x ∷ gs)) (owner_stays same table d.0 d.1)
+      (more_sent (size_in later table) (sent_to w table) (requests_to (owner_of w table) table (w.packets ++ more))
+      (λ q a. sent_left (λ (p : Packet). request_to (owner_of w table) table p.to p.message) w.packets more q a) (x ∷ gs) (gathers_stay table (x ∷ gs) all)))
 
   -- ---- and of what comes to a client
 
@@ -202,7 +210,11 @@ module _ (w later : World) (g : IsGround later) where
 
 -- ---- a step of the nodes
 
-module _ (v : Wire) (g : IsGround v.world) (k : IsKept v) (event : Event) (lucks : Lucks) (after : IsGround (step v.world event lucks).world) where
+-- a Store joins only where nothing is gathered
+abbrev pub NoneJoins : Wire → Event → Type 0
+NoneJoins v event = (stores_by v.world event ≡ v.world.stores) ⊎ (v.gathered ≡ [])
+
+module _ (v : Wire) (g : IsGround v.world) (k : IsKept v) (event : Event) (lucks : Lucks) (joins : NoneJoins v event) (after : IsGround (step v.world event lucks).world) where
   abbrev pub s : WorldStep
   s = step v.world event lucks
 
@@ -212,8 +224,13 @@ module _ (v : Wire) (g : IsGround v.world) (k : IsKept v) (event : Event) (lucks
   stay : SchemasStay v.world s.world
   stay = schemas_stay v.world g event lucks
 
-  left_gathers : (table : ℕ) (b : Bool) → Gathers (size_in s.world table) (requests_to table s.world.packets) (or_no_gatherings (if b then lookup (is_at (nat_cmp table)) v.gathered else None))
-  left_gathers table true = more_gathers v.world g s.world stay (packets_in s.outs) packets_are table (gathered_at v table) (k.gathers table)
+  all_gathers : (table : ℕ) → Gathers (size_in s.world table) (sent_to s.world table) (gathered_at v table)
+  all_gathers table = ⊎_elim
+      (λ same. more_gathers v.world g s.world stay ((step_stepped v.world event lucks g.fine).stores_are ∙ same) (packets_in s.outs) packets_are table (gathered_at v table) (k.gathers table))
+      (λ none. subst (λ (some : List (ℕ × List Gathering)). Gathers (size_in s.world table) (sent_to s.world table) (or_no_gatherings (lookup (is_at (nat_cmp table)) some))) (sym none) tt) joins
+
+  left_gathers : (table : ℕ) (b : Bool) → Gathers (size_in s.world table) (sent_to s.world table) (or_no_gatherings (if b then lookup (is_at (nat_cmp table)) v.gathered else None))
+  left_gathers table true = all_gathers table
   left_gathers table false = tt
 
   left_arriving : (c : ℕ) (b : Bool) → AreArriving (size_in s.world) (down_to c s.world.packets) (or_nothing (if b then lookup (is_at (nat_cmp c)) v.arriving else None))
@@ -227,7 +244,7 @@ module _ (v : Wire) (g : IsGround v.world) (k : IsKept v) (event : Event) (lucks
         (λ new. new_wholes v.world s.world after s.outs packets_are (sends_or_declares v.world g event lucks) p new)
         (among_either v.packets (parts_in v.world s.outs) p a);
     gathers = λ table.
-        subst (λ (o : Option (List Gathering)). Gathers (size_in s.world table) (requests_to table s.world.packets) (or_no_gatherings o))
+        subst (λ (o : Option (List Gathering)). Gathers (size_in s.world table) (sent_to s.world table) (or_no_gatherings o))
         (sym (lookup_some (λ (t : ℕ). is_hosted_up (hosted_at s.world t)) table v.gathered)) (left_gathers table (is_hosted_up (hosted_at s.world table)));
     arriving = λ c.
         subst (λ (o : Option Arriving). AreArriving (size_in s.world) (down_to c s.world.packets) (or_nothing o))
@@ -236,13 +253,13 @@ module _ (v : Wire) (g : IsGround v.world) (k : IsKept v) (event : Event) (lucks
 
 -- ---- what is put in memory
 
-pub gathered_kept : (v : Wire) → IsKept v → (table : ℕ) (gs : List Gathering) → Gathers (size_in v.world table) (requests_to table v.world.packets) gs → IsKept (with_gathered table gs v)
+pub gathered_kept : (v : Wire) → IsKept v → (table : ℕ) (gs : List Gathering) → Gathers (size_in v.world table) (sent_to v.world table) gs → IsKept (with_gathered table gs v)
 gathered_kept v k table gs all = record {
   parts = k.parts;
   gathers = λ q. ⊎_elim
-      (λ e. subst (λ (o : Option (List Gathering)). Gathers (size_in v.world q) (requests_to q v.world.packets) (or_no_gatherings o)) (sym e.1)
-      (subst (λ (t : ℕ). Gathers (size_in v.world t) (requests_to t v.world.packets) gs) (sym e.0) all))
-      (λ e. subst (λ (o : Option (List Gathering)). Gathers (size_in v.world q) (requests_to q v.world.packets) (or_no_gatherings o)) (sym e.1) (k.gathers q))
+      (λ e. subst (λ (o : Option (List Gathering)). Gathers (size_in v.world q) (sent_to v.world q) (or_no_gatherings o)) (sym e.1)
+      (subst (λ (t : ℕ). Gathers (size_in v.world t) (sent_to v.world t) gs) (sym e.0) all))
+      (λ e. subst (λ (o : Option (List Gathering)). Gathers (size_in v.world q) (sent_to v.world q) (or_no_gatherings o)) (sym e.1) (k.gathers q))
       (look_cases v.gathered table gs q);
   arriving = k.arriving;
 }

@@ -242,6 +242,7 @@ module _ (v : Wire) (g : IsGround v.world) (k : IsKept v) (number : ℕ) (p : Pa
         kept = kept;
         other = events.Pull c table;
         lucks = record lucks { tears = row ∷ []; asks = row ∷ [] };
+        joins = inl refl;
         alike = to_is v number p (nodes.Client c) at here;
         is = refl;
       })

@@ -13,11 +13,11 @@ use Rattle.step_tables.specs.Messages.{Request, Message, Luck, SyncRequest, Pull
 use Rattle.step_tables.specs.Messages as messages
 use Rattle.step_tables.specs.StoreMoves as store
 use Rattle.step_tables.specs.StoreMoves.{StoreDisk, StoreTask, TableStore, StoreMove, StoreStep, store_step}
-use Rattle.world_tables.specs.World.{World, Packet, Hosted, Moved, Lucks, owner, schema_at, hosted_at, scheme_in, chunk_in, is_down, answering, refused, unless_down, and_then}
+use Rattle.world_tables.specs.World.{World, Packet, Hosted, Moved, Lucks, owner_of, schema_at, hosted_at, hosted_by, scheme_in, chunk_in, is_down, answering, refused, unless_down, and_then}
 use Rattle.world_tables.specs.World.{after_table, table_step, move_hosted, move_table, table_follows, first_luck, other_lucks, take_read, take_at, to_hosted, carried}
 use Rattle.part_tables.specs.Parts.{Part, Asks, Responds, Pulls, Answers, BringsUp, BringsDown, AsksTorn, AnswersTorn, RequestHead}
 use Rattle.part_tables.specs.StoreParts.{Taken, Whole, Waits, StoreTaken, parted}
-use Rattle.name_laws.proofs.Plain.{IsPlace}
+use Rattle.world_laws.proofs.Owners.{hosted_by_is}
 use Rattle.piece_laws.specs.Pieces.{items_in, NamesOne}
 use Rattle.part_laws.specs.Gathers.{AreSent, Gathers, IsPart, IsTakenAsSent, ComesAs}
 use Rattle.part_laws.proofs.Stores.{gathers_still, comes_whole}
@@ -25,8 +25,8 @@ use Rattle.wire_tables.specs.Wire.{PartPacket, Wire, gathered_at, with_gathered,
 use Rattle.wire_laws.specs.Carried.{IsFit}
 use Rattle.wire_laws.proofs.Fitting.{request_fits}
 use Rattle.wire_laws.proofs.PartsOf.{IsPartOf, part_of, up_is, same_table, store_part}
-use Rattle.wire_laws.proofs.Ground.{IsGround, size_in, requests_to, IsRequestTo, sent_request, request_sent, positive, one_name, are_sent}
-use Rattle.wire_laws.proofs.Keeping.{HasWhole, IsKept, gathered_kept}
+use Rattle.wire_laws.proofs.Ground.{IsGround, size_in, IsRequestTo, sent_request, request_sent, positive, one_name, are_sent}
+use Rattle.wire_laws.proofs.Keeping.{HasWhole, IsKept, sent_to, gathered_kept}
 use Rattle.wire_laws.proofs.Comings.{Comes, brings, stays}
 
 -- ---- two moves that a table makes the same of
@@ -87,19 +87,19 @@ module _ (w : World) (table : ℕ) (hosted : Hosted) (from to : Node) (m n : Mes
 -- ---- packets that come to a Store
 
 module _ (w : World) (number table : ℕ) (lucks : Lucks) (x y : Packet) (tx : table_of x.message ≡ table) (ty : table_of y.message ≡ table) where
-  pub carried_same : to_hosted w table (store.Take x.from x.message) lucks.calls (hosted_at w table) ≡ to_hosted w table (store.Take y.from y.message) lucks.calls (hosted_at w table)
+  pub carried_same : to_hosted w table (store.Take x.from x.message) lucks.calls (hosted_by w number table) ≡ to_hosted w table (store.Take y.from y.message) lucks.calls (hosted_by w number table)
       → carried w x lucks.shape lucks.calls (nodes.Store number) ≡ carried w y lucks.shape lucks.calls (nodes.Store number)
   carried_same same =
-      ap (λ (t : ℕ). unless_down w (nodes.Store number) (to_hosted w t (store.Take x.from x.message) lucks.calls (hosted_at w t))) tx
+      ap (λ (t : ℕ). unless_down w (nodes.Store number) (to_hosted w t (store.Take x.from x.message) lucks.calls (hosted_by w number t))) tx
       ∙ (ap (unless_down w (nodes.Store number)) same
-      ∙ sym (ap (λ (t : ℕ). unless_down w (nodes.Store number) (to_hosted w t (store.Take y.from y.message) lucks.calls (hosted_at w t))) ty))
+      ∙ sym (ap (λ (t : ℕ). unless_down w (nodes.Store number) (to_hosted w t (store.Take y.from y.message) lucks.calls (hosted_by w number t))) ty))
 
   pub down_carried : is_down w (nodes.Store number) ≡ true → carried w x lucks.shape lucks.calls (nodes.Store number) ≡ carried w y lucks.shape lucks.calls (nodes.Store number)
   down_carried is = same (is_down w (nodes.Store number)) is
     where
       same : (b : Bool) → b ≡ true
-          → (if b then refused w (facts.NodeDown (nodes.Store number)) else to_hosted w (table_of x.message) (store.Take x.from x.message) lucks.calls (hosted_at w (table_of x.message)))
-          ≡ (if b then refused w (facts.NodeDown (nodes.Store number)) else to_hosted w (table_of y.message) (store.Take y.from y.message) lucks.calls (hosted_at w (table_of y.message)))
+          → (if b then refused w (facts.NodeDown (nodes.Store number)) else to_hosted w (table_of x.message) (store.Take x.from x.message) lucks.calls (hosted_by w number (table_of x.message)))
+          ≡ (if b then refused w (facts.NodeDown (nodes.Store number)) else to_hosted w (table_of y.message) (store.Take y.from y.message) lucks.calls (hosted_by w number (table_of y.message)))
       same true e = refl
       same false e = absurd (let bad : false ≡ true = e in cc)
 
@@ -127,17 +127,23 @@ module _ (v : Wire) (g : IsGround v.world) (k : IsKept v) (number : ℕ) (p : Pa
       (ap (carried v.world (whole p (any_of table)) lucks.shape lucks.calls) here
       ∙ (is ∙ ap (carried v.world q lucks.shape lucks.calls) (sym (sym h.to ∙ here))))
 
-  untaken_here : to_hosted v.world table (store.Take p.from (any_of table)) lucks.calls (hosted_at v.world table)
-      ≡ to_hosted v.world table (store.Take q.from q.message) lucks.calls (hosted_at v.world table)
+  untaken_here : to_hosted v.world table (store.Take p.from (any_of table)) lucks.calls (hosted_by v.world n table)
+      ≡ to_hosted v.world table (store.Take q.from q.message) lucks.calls (hosted_by v.world n table)
       → Comes v (events.Deliver number) (untaken v p lucks)
   untaken_here is = untaken_comes (carried_same v.world n table lucks (whole p (any_of table)) q refl same is)
 
-  module _ (hosted : Hosted) (there : hosted_at v.world table ≡ Some hosted) where
+  module _ (hosted : Hosted) (by : hosted_by v.world n table ≡ Some hosted) where
+    own : owner_of v.world table ≡ n
+    own = (hosted_by_is v.world n table hosted by).0
+
+    abbrev there : hosted_at v.world table ≡ Some hosted
+    there = (hosted_by_is v.world n table hosted by).1
+
     at_hosted : to_hosted v.world table (store.Take p.from (any_of table)) lucks.calls (Some hosted) ≡ to_hosted v.world table (store.Take q.from q.message) lucks.calls (Some hosted)
         → Comes v (events.Deliver number) (untaken v p lucks)
     at_hosted is =
-        untaken_here (ap (to_hosted v.world table (store.Take p.from (any_of table)) lucks.calls) there
-        ∙ (is ∙ sym (ap (to_hosted v.world table (store.Take q.from q.message) lucks.calls) there)))
+        untaken_here (ap (to_hosted v.world table (store.Take p.from (any_of table)) lucks.calls) by
+        ∙ (is ∙ sym (ap (to_hosted v.world table (store.Take q.from q.message) lucks.calls) by)))
 
     abbrev schema : Schema
     schema = (g.declared table hosted there).0
@@ -152,18 +158,18 @@ module _ (v : Wire) (g : IsGround v.world) (k : IsKept v) (number : ℕ) (p : Pa
     items = hosted.store.disk.items
 
     abbrev sent : List Request
-    sent = requests_to table v.world.packets
+    sent = sent_to v.world table
 
     names : NamesOne (size_in v.world table) items
     names = subst (λ (l : List Stored). NamesOne (size_in v.world table) l) (ap items_in there) (one_name v.world g table schema g_known)
 
     are : AreSent (size_in v.world table) items sent
-    are = subst (λ (l : List Stored). AreSent (size_in v.world table) l sent) (ap items_in there) (are_sent v.world g table schema g_known)
+    are = subst (λ (l : List Stored). AreSent (size_in v.world table) l sent) (ap items_in there) (are_sent v.world g table schema g_known (owner_of v.world table))
 
     is_part : IsPart (size_in v.world table) sent p.part
     is_part =
         store_part (size_in v.world table) sent q.message p.part (subst (λ (t : ℕ). IsPartOf (size_in v.world t) q.message p.part) same part_is)
-        (λ r is. request_sent table v.world.packets q r n h.stands (sym h.to ∙ here) is (sym (ap table_of is) ∙ same))
+        (λ r is. request_sent (owner_of v.world table) table v.world.packets q r h.stands (sym h.to ∙ (here ∙ ap nodes.Store (sym own))) is (sym (ap table_of is) ∙ same))
 
     abbrev pub x : StoreTaken
     x = parted scheme (size_in v.world table) items (gathered_at v table) p.part
@@ -184,27 +190,22 @@ module _ (v : Wire) (g : IsGround v.world) (k : IsKept v) (number : ℕ) (p : Pa
       pub fit : IsFit (schema_at v.world) p.from m
       pub step : table_step v.world table hosted (store.Take p.from m) ≡ table_step v.world table hosted (store.Take packet.from packet.message)
 
-    -- there is one Store
-    one_store : (packet : Packet) (other : ℕ) → Among v.world.packets packet → packet.to ≡ nodes.Store other → packet.to ≡ p.to
-    one_store packet other a is =
-        is ∙ (ap nodes.Store (subst IsPlace is (g.fine.places packet a).1 ∙ sym (subst IsPlace (sym h.to ∙ here) (g.fine.places q h.stands).1)) ∙ sym here)
-
     module _ (idle : hosted.store.agenda ≡ Some []) where
       as_request : (m : Message) (client : ℕ) → p.from ≡ nodes.Client client → IsTakenAsSent scheme (size_in v.world table) items sent client m → IsTakenAs m
       as_request m client from t =
-          let r : IsRequestTo table v.world.packets t.0 = sent_request table v.world.packets t.0 t.1 in
+          let r : IsRequestTo (owner_of v.world table) table v.world.packets t.0 = sent_request (owner_of v.world table) table v.world.packets t.0 t.1 in
           let way : r.packet.from ≡ p.from = (g.requests r.packet t.0 r.stands r.message).2 ∙ (ap nodes.Client t.2 ∙ sym from) in
           let idle_store : hosted.store ≡ record { disk = hosted.store.disk; agenda = Some [] } = ap (λ (a : Option (List StoreTask)). record { disk = hosted.store.disk; agenda = a }) idle in
-          let at_store = λ (f : Node) (y : Message). ap (λ (s : TableStore). store_step owner scheme (size_in v.world table) table s (store.Take f y)) idle_store in
+          let at_store = λ (f : Node) (y : Message). ap (λ (s : TableStore). store_step (owner_of v.world table) scheme (size_in v.world table) table s (store.Take f y)) idle_store in
           record {
             packet = r.packet;
             stands = r.stands;
-            to = one_store r.packet r.store r.stands r.to;
+            to = r.to ∙ (ap nodes.Store own ∙ sym here);
             table_m = t.3 ∙ r.table_is;
             table_is = ap table_of r.message ∙ r.table_is;
             fit = request_fits (schema_at v.world) p.from t.0 m
                 (subst (λ (f : Node). IsFit (schema_at v.world) f (SyncRequest t.0)) way (subst (IsFit (schema_at v.world) r.packet.from) r.message (g.fits r.packet r.stands))) t.5;
-            step = at_store p.from m ∙ (t.4 owner table hosted.store.disk p.from refl ∙ (sym (at_store p.from (SyncRequest t.0))
+            step = at_store p.from m ∙ (t.4 (owner_of v.world table) table hosted.store.disk p.from refl ∙ (sym (at_store p.from (SyncRequest t.0))
                 ∙ (ap (λ (f : Node). table_step v.world table hosted (store.Take f (SyncRequest t.0))) (sym way)
                 ∙ ap (λ (y : Message). table_step v.world table hosted (store.Take r.packet.from y)) (sym r.message))));
           }
@@ -244,9 +245,9 @@ module _ (v : Wire) (g : IsGround v.world) (k : IsKept v) (number : ℕ) (p : Pa
           brings v number p at lucks (with_gathered table x.gatherings v).gathered v.arriving kept t.packet t.stands t.to _
           (ap (carried v.world (whole p m) lucks.shape lucks.calls) here
           ∙ (carried_same v.world n table lucks (whole p m) t.packet t.table_m t.table_is
-          (ap (to_hosted v.world table (store.Take p.from m) lucks.calls) there
+          (ap (to_hosted v.world table (store.Take p.from m) lucks.calls) by
           ∙ (taken_same v.world table lucks.calls (store.Take p.from m) (store.Take t.packet.from t.packet.message) hosted there t.step
-          ∙ sym (ap (to_hosted v.world table (store.Take t.packet.from t.packet.message) lucks.calls) there)))
+          ∙ sym (ap (to_hosted v.world table (store.Take t.packet.from t.packet.message) lucks.calls) by)))
           ∙ ap (carried v.world t.packet lucks.shape lucks.calls) (sym (t.to ∙ here))))
 
       waits_come : (luck : Luck) → first_luck lucks.calls ≡ luck → Comes v (events.Deliver number) (waits v (with_gathered table x.gatherings v) p lucks luck)
@@ -271,14 +272,14 @@ module _ (v : Wire) (g : IsGround v.world) (k : IsKept v) (number : ℕ) (p : Pa
         (busy_step v.world table hosted p.from q.from (any_of table) q.message task more is))
     agenda_comes (Some []) is = taken_comes is x.taken refl
 
-  hosted_comes : (o : Option Hosted) → hosted_at v.world table ≡ o → Comes v (events.Deliver number) (by_hosted v p lucks o)
-  hosted_comes None there =
-      untaken_here (ap (to_hosted v.world table (store.Take p.from (any_of table)) lucks.calls) there ∙ sym (ap (to_hosted v.world table (store.Take q.from q.message) lucks.calls) there))
-  hosted_comes (Some hosted) there = agenda_comes hosted there hosted.store.agenda refl
+  hosted_comes : (o : Option Hosted) → hosted_by v.world n table ≡ o → Comes v (events.Deliver number) (by_hosted v p lucks o)
+  hosted_comes None by =
+      untaken_here (ap (to_hosted v.world table (store.Take p.from (any_of table)) lucks.calls) by ∙ sym (ap (to_hosted v.world table (store.Take q.from q.message) lucks.calls) by))
+  hosted_comes (Some hosted) by = agenda_comes hosted by hosted.store.agenda refl
 
   pub store_comes : Comes v (events.Deliver number) (brought v p lucks (nodes.Store n))
   store_comes = go (is_down v.world (nodes.Store n)) refl
     where
-      go : (b : Bool) → is_down v.world (nodes.Store n) ≡ b → Comes v (events.Deliver number) (if b then untaken v p lucks else by_hosted v p lucks (hosted_at v.world table))
+      go : (b : Bool) → is_down v.world (nodes.Store n) ≡ b → Comes v (events.Deliver number) (if b then untaken v p lucks else by_hosted v p lucks (hosted_by v.world n table))
       go true is = untaken_comes (down_carried v.world n table lucks (whole p (any_of table)) q refl same is)
-      go false is = hosted_comes (hosted_at v.world table) refl
+      go false is = hosted_comes (hosted_by v.world n table) refl

@@ -4,6 +4,8 @@ use Rattle.std.specs.Prelude.{◌&&◌, ◌||◌, not, map, slice_get, MatchBool
 use Rattle.std.specs.List.{list_any}
 use Rattle.std.proofs.Math.Path.{fun_ext}
 use Rattle.stab_base.specs.declared.node.Node.{Node}
+use Rattle.stab_base.specs.declared.node.Node.TheVariants as nodes
+use Rattle.row_value.specs.declared.schema.Schema.{Schema}
 use Rattle.row_value.specs.declared.schema.Scheme.{Scheme}
 use Rattle.row_value.specs.declared.schema.Scheme.TheVariants.{Eventual}
 use Rattle.table_model.specs.declared.event.Event.{Event}
@@ -14,9 +16,9 @@ use Rattle.step_tables.specs.Members.{Among}
 use Rattle.step_tables.specs.Sayings.{Said, nothing_said, hear_lines}
 use Rattle.step_tables.proofs.Lists.{among_none, among_here, among_next, among_cons, among_filter, among_filtered}
 use Rattle.world_tables.specs.Turns.{Turn}
-use Rattle.world_tables.specs.World.{same_node, has_node, without_node, the_store}
+use Rattle.world_tables.specs.World.{same_node, has_node, without_node, owner_by, joining}
 use Rattle.world_tables.specs.Sound.{declared_by, scheme_for, AreSaid, IsForm, is_declaration, IsAnswered, IsTurn, InSight, IsSoundFrom, IsSound}
-use Rattle.world_tables.specs.Quiet.{Quiet, at_first, sent_in, answer_in, if_done, comes_to, held_after, loud_after, after, size_by, size_for, IsListed, AreListedFrom, AreListed}
+use Rattle.world_tables.specs.Quiet.{Quiet, at_first, sent_in, answer_in, if_done, comes_to, held_after, loud_after, stores_after, after, schema_by, schema_for, IsListed, AreListedFrom, AreListed}
 use Rattle.asked_laws.specs.Asked.{Asked, nothing_asked, line_asked, lines_asked, LinesAsked, AskedFrom, AreAsked}
 use Rattle.asked_laws.specs.Phases.{goes_to, has_fault, goes_down, phase_by, phase_from, has_phase}
 use Rattle.wire_laws.specs.Alike.{AreLinesAlike, IsEventAlike, IsTurnAlike, IsLone, AreAlikeFrom, AreAlike}
@@ -66,8 +68,8 @@ module _ {X : Type 0} (by : Event → ℕ → X → X) (f : List Event → ℕ �
 schemes_alike : (turns others : List Turn) → AreAlike turns others → scheme_for (events_of turns) ≡ scheme_for (events_of others)
 schemes_alike turns others is = made_alike declared_by scheme_for (λ event more table. refl) (λ k table x. refl) (λ c n table x. refl) turns others [] [] is
 
-sizes_alike : (turns others : List Turn) → AreAlike turns others → size_for (events_of turns) ≡ size_for (events_of others)
-sizes_alike turns others is = made_alike size_by size_for (λ event more table. refl) (λ k table x. refl) (λ c n table x. refl) turns others [] [] is
+schemas_alike : (turns others : List Turn) → AreAlike turns others → schema_for (events_of turns) ≡ schema_for (events_of others)
+schemas_alike turns others is = made_alike schema_by schema_for (λ event more table. refl) (λ k table x. refl) (λ c n table x. refl) turns others [] [] is
 
 -- ---- sound
 
@@ -251,14 +253,15 @@ there_any {X} p (y ∷ ys) is = pick (there_any p ys) (p y) refl is
     pick rest false here e = let r = rest e in (r.0, among_next y ys r.0 r.1, r.2)
 
 -- the wire holds the same nodes, and something came to each node to which something came in the whole world
-record IsQuieter (sent whole : List Node) (q r : Quiet) : Type 0 where
-  held : q.held ≡ r.held
-  loud : (x : Node) → Among r.loud x → Among q.loud x
-  sent_is : q.sent ≡ sent
-  whole_is : r.sent ≡ whole
+pub record IsQuieter (sent whole : List Node) (q r : Quiet) : Type 0 where
+  pub stores : q.stores ≡ r.stores
+  pub held : q.held ≡ r.held
+  pub loud : (x : Node) → Among r.loud x → Among q.loud x
+  pub sent_is : q.sent ≡ sent
+  pub whole_is : r.sent ≡ whole
 
 module _ (sent whole : List Node) (q r : Quiet) (a : IsQuieter sent whole q r) where
-  more_comes : (to : Option Node) (x : Node) → Among q.loud x → Among (comes_to q to) x
+  pub more_comes : (to : Option Node) (x : Node) → Among q.loud x → Among (comes_to q to) x
   more_comes None x m = m
   more_comes (Some node) x m = go (has_node q.held node)
     where
@@ -284,15 +287,35 @@ module _ (sent whole : List Node) (q r : Quiet) (a : IsQuieter sent whole q r) w
   worked_too node (Some (facts.Refuses refusal)) x m = a.loud x m
   worked_too node (Some other) x m = without_too node x m
 
-  deliver_comes : (k n : ℕ) (x : Node) → slice_get whole n ≡ slice_get sent k → Among (comes_to r (slice_get r.sent n)) x → Among (comes_to q (slice_get q.sent k)) x
+  joining_too : (number : ℕ) (x : Node) → Among (joining number r.loud) x → Among (joining number q.loud) x
+  joining_too number x m = go r.loud q.loud (a.loud x) (λ y there. a.loud y there) m
+    where
+      go : (less more : List Node) → (Among less x → Among more x) → ((y : Node) → Among less y → Among more y) → Among (joining number less) x → Among (joining number more) x
+      go [] more here all there = absurd (among_none x there)
+      go (y ∷ less) [] here all there = absurd (among_none y (all y (among_here y less)))
+      go (y ∷ less) (z ∷ more) here all there = ⊎_elim (λ e. subst (Among (nodes.Store number ∷ z ∷ more)) e (among_here (nodes.Store number) (z ∷ more)))
+          (λ b. among_next (nodes.Store number) (z ∷ more) x (here b)) (among_cons (nodes.Store number) (y ∷ less) x there)
+
+  pub stores_same : (event : Event) → stores_after q event ≡ stores_after r event
+  stores_same (events.Store number) = ap (λ (stores : List ℕ). number ∷ stores) a.stores
+  stores_same other = a.stores
+
+  stores_alike : (event other : Event) → IsEventAlike sent whole event other → stores_after q event ≡ stores_after r other
+  stores_alike (events.Deliver k) (events.Deliver n) e = a.stores
+  stores_alike (events.Deliver k) (events.Pull c n) e = a.stores
+  stores_alike (events.Deliver k) other e = absurd e
+  stores_alike event other e = stores_same event ∙ ap (stores_after r) (sym e)
+
+  pub deliver_comes : (k n : ℕ) (x : Node) → slice_get whole n ≡ slice_get sent k → Among (comes_to r (slice_get r.sent n)) x → Among (comes_to q (slice_get q.sent k)) x
   deliver_comes k n x e m =
       same_comes (slice_get q.sent k) x (subst (λ (to : Option Node). Among (comes_to r to) x)
       (ap (λ (l : List Node). slice_get l n) a.whole_is ∙ (e ∙ ap (λ (l : List Node). slice_get l k) (sym a.sent_is))) m)
 
-  loud_same : (event : Event) (answer : Option Answer) (x : Node) → IsEventAlike sent whole event event → Among (loud_after r event answer) x → Among (loud_after q event answer) x
+  pub loud_same : (event : Event) (answer : Option Answer) (x : Node) → IsEventAlike sent whole event event → Among (loud_after r event answer) x → Among (loud_after q event answer) x
   loud_same (events.Deliver k) answer x e m = deliver_comes k k x e m
   loud_same (events.Start node) answer x e m = same_comes (Some node) x m
   loud_same (events.WorkAll node) answer x e m = worked_too node answer x m
+  loud_same (events.Store number) answer x e m = joining_too number x m
   loud_same other answer x e m = a.loud x m
 
   loud_alike : (event other : Event) (answer : Option Answer) (x : Node) → IsEventAlike sent whole event other → Among (loud_after r other answer) x → Among (loud_after q event answer) x
@@ -301,7 +324,7 @@ module _ (sent whole : List Node) (q r : Quiet) (a : IsQuieter sent whole q r) w
   loud_alike (events.Deliver k) other answer x e m = absurd e
   loud_alike event other answer x e m = loud_same event answer x refl (subst (λ (y : Event). Among (loud_after r y answer) x) e m)
 
-  held_same : (event : Event) (answer : Option Answer) → held_after q event answer ≡ held_after r event answer
+  pub held_same : (event : Event) (answer : Option Answer) → held_after q event answer ≡ held_after r event answer
   held_same (events.Hold node) answer = ap (λ (h : List Node). if_done answer (node ∷ h) h) a.held
   held_same (events.Free node) answer = ap (λ (h : List Node). if_done answer (without_node h node) h) a.held
   held_same other answer = a.held
@@ -312,29 +335,32 @@ module _ (sent whole : List Node) (q r : Quiet) (a : IsQuieter sent whole q r) w
   held_alike (events.Deliver k) other answer e = absurd e
   held_alike event other answer e = held_same event answer ∙ ap (λ (y : Event). held_after r y answer) (sym e)
 
-  quiet_too : has_node q.loud the_store ≡ false → has_node r.loud the_store ≡ false
-  quiet_too none = go (has_node r.loud the_store) refl
+  quiet_too : (node : Node) → has_node q.loud node ≡ false → has_node r.loud node ≡ false
+  quiet_too node none = go (has_node r.loud node) refl
     where
-      go : (b : Bool) → has_node r.loud the_store ≡ b → b ≡ false
+      go : (b : Bool) → has_node r.loud node ≡ b → b ≡ false
       go false e = refl
       go true e =
-          let x = there_any (same_node the_store) r.loud e in
-          absurd (true≢false (sym (any_there (same_node the_store) q.loud x.0 (a.loud x.0 x.1) x.2) ∙ none))
+          let x = there_any (same_node node) r.loud e in
+          absurd (true≢false (sym (any_there (same_node node) q.loud x.0 (a.loud x.0 x.1) x.2) ∙ none))
 
-  listed_same : (sizes : ℕ → ℕ) (s : Said) (event : Event) (answer : Option Answer) → IsListed sizes s r event answer → IsListed sizes s q event answer
-  listed_same sizes s (events.Chunks table) (Some answer) k = λ some none. k some (quiet_too none)
-  listed_same sizes s (events.Chunks table) None k = tt
-  listed_same sizes s other answer k = tt
+  pub listed_same : (schemas : ℕ → Option Schema) (s : Said) (event : Event) (answer : Option Answer) → IsListed schemas s r event answer → IsListed schemas s q event answer
+  listed_same schemas s (events.Chunks table) (Some answer) k = λ some none. k some
+      (quiet_too (nodes.Store (owner_by r.stores (schemas table))) (ap (λ (stores : List ℕ). has_node q.loud (nodes.Store (owner_by stores (schemas table)))) (sym a.stores) ∙ none))
+  listed_same schemas s (events.Chunks table) None k = tt
+  listed_same schemas s other answer k = tt
 
-  listed_alike : (sizes : ℕ → ℕ) (s : Said) (event other : Event) (answer : Option Answer) → IsEventAlike sent whole event other → IsListed sizes s r other answer → IsListed sizes s q event answer
-  listed_alike sizes s (events.Deliver k) other answer e m = tt
-  listed_alike sizes s event other answer e m = listed_same sizes s event answer (subst (λ (y : Event). IsListed sizes s r y answer) e m)
+  listed_alike : (schemas : ℕ → Option Schema) (s : Said) (event other : Event) (answer : Option Answer) → IsEventAlike sent whole event other
+      → IsListed schemas s r other answer → IsListed schemas s q event answer
+  listed_alike schemas s (events.Deliver k) other answer e m = tt
+  listed_alike schemas s event other answer e m = listed_same schemas s event answer (subst (λ (y : Event). IsListed schemas s r y answer) e m)
 
   -- behind a turn
   quieter_both : (turn other : Turn) → IsTurnAlike sent whole turn other → IsQuieter (sent ++ sent_in turn.lines) (whole ++ sent_in other.lines) (after q turn) (after r other)
   quieter_both turn other e =
       let answer = answer_alike turn.lines other.lines e.lines in
       record {
+        stores = stores_alike turn.event other.event e.event;
         held = held_alike turn.event other.event (answer_in turn.lines) e.event ∙ ap (held_after r other.event) answer;
         loud = λ x m. loud_alike turn.event other.event (answer_in turn.lines) x e.event (subst (λ (o : Option Answer). Among (loud_after r other.event o) x) (sym answer) m);
         sent_is = ap (λ (l : List Node). l ++ sent_in turn.lines) a.sent_is;
@@ -343,12 +369,17 @@ module _ (sent whole : List Node) (q r : Quiet) (a : IsQuieter sent whole q r) w
 
   quieter_lone : (turn : Turn) → IsLone turn.event turn.lines → IsQuieter (sent ++ sent_in turn.lines) whole (after q turn) r
   quieter_lone turn l = record {
+    stores = stores turn.event l;
     held = held turn.event l;
     loud = λ x m. loud turn.event l x m;
     sent_is = ap (λ (l : List Node). l ++ sent_in turn.lines) a.sent_is;
     whole_is = a.whole_is;
   }
     where
+      stores : (event : Event) → IsLone event turn.lines → stores_after q event ≡ r.stores
+      stores (events.Deliver k) is = a.stores
+      stores other is = absurd is
+
       held : (event : Event) → IsLone event turn.lines → held_after q event (answer_in turn.lines) ≡ r.held
       held (events.Deliver k) is = a.held
       held other is = absurd is
@@ -357,28 +388,28 @@ module _ (sent whole : List Node) (q r : Quiet) (a : IsQuieter sent whole q r) w
       loud (events.Deliver k) is x m = more_comes (slice_get q.sent k) x (a.loud x m)
       loud other is x m = absurd is
 
-lone_listed : (sizes : ℕ → ℕ) (s : Said) (q : Quiet) (event : Event) (answer : Option Answer) (lines : List Line) → IsLone event lines → IsListed sizes s q event answer
-lone_listed sizes s q (events.Deliver k) answer lines is = tt
-lone_listed sizes s q other answer lines is = absurd is
+lone_listed : (schemas : ℕ → Option Schema) (s : Said) (q : Quiet) (event : Event) (answer : Option Answer) (lines : List Line) → IsLone event lines → IsListed schemas s q event answer
+lone_listed schemas s q (events.Deliver k) answer lines is = tt
+lone_listed schemas s q other answer lines is = absurd is
 
-listed_from : (sizes : ℕ → ℕ) (turns others : List Turn) (sent whole : List Node) → AreAlikeFrom sent whole turns others → (s : Said) (q r : Quiet) → IsQuieter sent whole q r
-    → AreListedFrom sizes s r others → AreListedFrom sizes s q turns
-listed_from sizes turns others sent whole is =
-    by_turns (λ (sent whole : List Node) (xs ys : List Turn). (s : Said) (q r : Quiet) → IsQuieter sent whole q r → AreListedFrom sizes s r ys → AreListedFrom sizes s q xs)
+listed_from : (schemas : ℕ → Option Schema) (turns others : List Turn) (sent whole : List Node) → AreAlikeFrom sent whole turns others → (s : Said) (q r : Quiet) → IsQuieter sent whole q r
+    → AreListedFrom schemas s r others → AreListedFrom schemas s q turns
+listed_from schemas turns others sent whole is =
+    by_turns (λ (sent whole : List Node) (xs ys : List Turn). (s : Said) (q r : Quiet) → IsQuieter sent whole q r → AreListedFrom schemas s r ys → AreListedFrom schemas s q xs)
     (λ sent whole s q r a k. tt)
     (λ sent whole turn xs ys l p s q r a k. (
-      lone_listed sizes s q turn.event (answer_in turn.lines) turn.lines l,
-      subst (λ (x : Said). AreListedFrom sizes x (after q turn) xs) (sym (lone_heard (λ table. Eventual) s turn.event turn.lines l)) (p s (after q turn) r (quieter_lone sent whole q r a turn l) k),
+      lone_listed schemas s q turn.event (answer_in turn.lines) turn.lines l,
+      subst (λ (x : Said). AreListedFrom schemas x (after q turn) xs) (sym (lone_heard (λ table. Eventual) s turn.event turn.lines l)) (p s (after q turn) r (quieter_lone sent whole q r a turn l) k),
     ))
     (λ sent whole turn other xs ys e p s q r a k. (
-      listed_alike sent whole q r a sizes s turn.event other.event (answer_in turn.lines) e.event
-          (subst (IsListed sizes s r other.event) (sym (answer_alike turn.lines other.lines e.lines)) k.0),
-      subst (λ (x : Said). AreListedFrom sizes x (after q turn) xs) (sym (hear_alike turn.lines other.lines e.lines s))
+      listed_alike sent whole q r a schemas s turn.event other.event (answer_in turn.lines) e.event
+          (subst (IsListed schemas s r other.event) (sym (answer_alike turn.lines other.lines e.lines)) k.0),
+      subst (λ (x : Said). AreListedFrom schemas x (after q turn) xs) (sym (hear_alike turn.lines other.lines e.lines s))
           (p (hear_lines s other.lines) (after q turn) (after r other) (quieter_both sent whole q r a turn other e) k.1),
     ))
     turns sent whole others is
 
 pub are_listed_alike : (turns others : List Turn) → AreAlike turns others → AreListed others → AreListed turns
 are_listed_alike turns others is k =
-    subst (λ (sizes : ℕ → ℕ). AreListedFrom sizes nothing_said at_first turns) (sym (sizes_alike turns others is))
-    (listed_from (size_for (events_of others)) turns others [] [] is nothing_said at_first at_first (record { held = refl; loud = λ x m. m; sent_is = refl; whole_is = refl }) k)
+    subst (λ (schemas : ℕ → Option Schema). AreListedFrom schemas nothing_said at_first turns) (sym (schemas_alike turns others is))
+    (listed_from (schema_for (events_of others)) turns others [] [] is nothing_said at_first at_first (record { stores = refl; held = refl; loud = λ x m. m; sent_is = refl; whole_is = refl }) k)

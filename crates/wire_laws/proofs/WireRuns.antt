@@ -16,7 +16,7 @@ use Rattle.client_laws.proofs.Grows.{client_grows, lapsed_grows}
 use Rattle.world_laws.proofs.Runs.{all_runs}
 use Rattle.world_laws.proofs.Fresh.{fresh_part}
 use Rattle.name_laws.proofs.Moves.{packets_in}
-use Rattle.name_laws.proofs.Steps.{holds_by, schemas_by, Stepped, step_stepped, to_join, lines_sent}
+use Rattle.name_laws.proofs.Steps.{stores_by, holds_by, schemas_by, Stepped, step_stepped, to_join, lines_sent}
 use Rattle.name_laws.proofs.Runs.{all_listed}
 use Rattle.asked_laws.specs.Asked.{AreAsked}
 use Rattle.asked_laws.specs.Phases.{is_away, has_phase}
@@ -101,7 +101,7 @@ module _ (v : Wire) (event : Event) (hs : List Happening) where
       y : WorldStep
       y = step v.world s.other s.lucks
 
-      stepped : Stepped v.world (holds_by v.world s.other s.lucks) (schemas_by v.world s.other s.lucks) (step v.world s.other s.lucks)
+      stepped : Stepped v.world (stores_by v.world s.other) (holds_by v.world s.other s.lucks) (schemas_by v.world s.other s.lucks) (step v.world s.other s.lucks)
       stepped = step_stepped v.world s.other s.lucks g.fine
 
       wire_sent : to_of (spread (beside v s.gathered s.arriving) (step v.world s.other s.lucks)).wire.packets
@@ -115,7 +115,7 @@ module _ (v : Wire) (event : Event) (hs : List Happening) where
           ap whole_to stepped.packets
           ∙ (to_join v.world.packets (packets_in (step v.world s.other s.lucks).outs)
           ∙ ap (λ (ns : List Node). whole_to v.world.packets ++ ns)
-          (sym (lines_sent v.world (holds_by v.world s.other s.lucks) (schemas_by v.world s.other s.lucks) (step v.world s.other s.lucks) stepped)))
+          (sym (lines_sent v.world (stores_by v.world s.other) (holds_by v.world s.other s.lucks) (schemas_by v.world s.other s.lucks) (step v.world s.other s.lucks) stepped)))
 
 abbrev Rest : List Happening → Type 0
 Rest hs = (v : Wire) (front : List Happening) → v.world ≡ world_from world.start front → AreBuilt front → IsKept v → IsRunFrom v hs
@@ -132,7 +132,7 @@ module _ (h : Happening) (hs : List Happening) (rest : Rest hs) (v : Wire) (fron
       let there : (step v.world s.other s.lucks).world ≡ world_from world.start (front ++ next ∷ []) =
       ap (λ (w : World). (step w s.other s.lucks).world) at ∙ sym (world_push next front world.start) in
       rest (spread (beside v s.gathered s.arriving) (step v.world s.other s.lucks)).wire (front ++ next ∷ []) there later
-      (spread_kept (beside v s.gathered s.arriving) here s.kept s.other s.lucks (subst IsGround (sym there) (ground (front ++ next ∷ []) later)))
+      (spread_kept (beside v s.gathered s.arriving) here s.kept s.other s.lucks s.joins (subst IsGround (sym there) (ground (front ++ next ∷ []) later)))
 
   goes_on : IsLoneStep v h.event (wire_step v h.event h.lucks) ⊎ IsStepOf v h.event (wire_step v h.event h.lucks) → Goes v h.event hs (wire_step v h.event h.lucks)
   goes_on (inl s) = lone_goes v h.event hs (wire_step v h.event h.lucks) s (rest (beside v s.gathered s.arriving) front at before s.kept)
@@ -179,7 +179,7 @@ one_kept v i h built = ⊎_elim alone stepped (all_come v here i.kept h.event h.
           front = i.front ++ next ∷ [];
           at = there;
           built = later;
-          kept = spread_kept (beside v s.gathered s.arriving) here s.kept s.other s.lucks (subst IsGround (sym there) (ground (i.front ++ next ∷ []) later));
+          kept = spread_kept (beside v s.gathered s.arriving) here s.kept s.other s.lucks s.joins (subst IsGround (sym there) (ground (i.front ++ next ∷ []) later));
         })
 
 goes_from : (hs : List Happening) → AreBuilt hs → (v : Wire) → IsGoing v → IsGoing (wire_from v hs)

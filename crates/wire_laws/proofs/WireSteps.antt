@@ -13,7 +13,7 @@ use Rattle.part_tables.specs.Arriving.{Arriving, nothing_arriving, with_torn, as
 use Rattle.part_laws.specs.Rows.{SentDown, AreArriving}
 use Rattle.part_laws.proofs.WholeRows.{nothing_kept, asking_kept}
 use Rattle.wire_tables.specs.Wire.{PartPacket, Wire, arriving_at, with_arriving, any_of, part_table, whole, untaken, brought}
-use Rattle.wire_tables.specs.Wire.{delivered, pulling, pulled, torn_told, noting, started_with, started, wire_step, spread}
+use Rattle.wire_tables.specs.Wire.{delivered, pulling, pulled, torn_told, noting, started_with, started, store_joined, wire_step, spread}
 use Rattle.wire_laws.proofs.Ground.{IsGround, size_in, down_to}
 use Rattle.wire_laws.proofs.Keeping.{HasWhole, IsKept, arriving_kept}
 use Rattle.wire_laws.proofs.Comings.{Comes, brings}
@@ -65,6 +65,7 @@ module _ (v : Wire) (g : IsGround v.world) (k : IsKept v) where
         kept = arriving_kept v k c (asking table (arriving_at v c)) (asking_kept (size_in v.world) (down_to c v.world.packets) table (arriving_at v c) (k.arriving c));
         other = events.Pull c table;
         lucks = pulling v c table lucks;
+        joins = inl refl;
         alike = refl;
         is = refl;
       })
@@ -74,6 +75,7 @@ module _ (v : Wire) (g : IsGround v.world) (k : IsKept v) where
         kept = k;
         other = events.Pull c table;
         lucks = record lucks { tears = []; asks = [] };
+        joins = inl refl;
         alike = refl;
         is = refl;
       })
@@ -97,15 +99,31 @@ module _ (v : Wire) (g : IsGround v.world) (k : IsKept v) where
             (noting_kept (size_in v.world) (down_to c v.world.packets) (torn_told outs) nothing_arriving (nothing_kept (size_in v.world) (down_to c v.world.packets)));
         other = events.Start (nodes.Client c);
         lucks = lucks;
+        joins = inl refl;
         alike = refl;
         is = refl;
       })
-      go false = inr (record { gathered = v.gathered; arriving = v.arriving; kept = k; other = events.Start (nodes.Client c); lucks = lucks; alike = refl; is = refl })
+      go false = inr (record { gathered = v.gathered; arriving = v.arriving; kept = k; other = events.Start (nodes.Client c); lucks = lucks; joins = inl refl; alike = refl; is = refl })
+
+  -- ---- a Store that joins
+
+  joined_comes : (number : ℕ) (lucks : Lucks) → Comes v (events.Store number) (store_joined v number lucks)
+  joined_comes number lucks = inr (record {
+    gathered = [];
+    arriving = v.arriving;
+    kept = record { parts = k.parts; gathers = λ table. tt; arriving = k.arriving };
+    other = events.Store number;
+    lucks = lucks;
+    joins = inr refl;
+    alike = refl;
+    is = refl;
+  })
 
   -- ---- any event
 
   pub all_come : (event : Event) (lucks : Lucks) → Comes v event (wire_step v event lucks)
+  all_come (events.Store number) lucks = joined_comes number lucks
   all_come (events.Deliver number) lucks = delivered_comes number lucks (slice_get v.packets number) refl
   all_come (events.Pull c table) lucks = pulled_comes c table lucks
   all_come (events.Start (nodes.Client c)) lucks = started_comes c lucks
-  all_come other lucks = inr (record { gathered = v.gathered; arriving = v.arriving; kept = k; other = other; lucks = lucks; alike = refl; is = refl })
+  all_come other lucks = inr (record { gathered = v.gathered; arriving = v.arriving; kept = k; other = other; lucks = lucks; joins = inl refl; alike = refl; is = refl })

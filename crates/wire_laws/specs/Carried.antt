@@ -1,5 +1,5 @@
 -- What a node of the wire is handed for a part, as a delivery of a whole packet, and what a delivery comes to.
-use Rattle.std.specs.Prelude.{◌≡◌, ◌≢◌, ◌⊎◌, ℕ, false, List, slice_get, Option, Some, None}
+use Rattle.std.specs.Prelude.{◌≡◌, ◌≢◌, ◌⊎◌, ℕ, ◌==◌, false, List, slice_get, Option, Some, None}
 use Rattle.stab_base.specs.declared.node.Node.{Node}
 use Rattle.stab_base.specs.declared.node.Node.TheVariants as nodes
 use Rattle.row_value.specs.declared.schema.Schema.{Schema}
@@ -14,8 +14,8 @@ use Rattle.step_tables.specs.ClientMoves.{Client, TableDisk, table_at, seen}
 use Rattle.world_tables.specs.Passed.{taken_by, taken_part}
 use Rattle.world_tables.specs.Ready.{is_table_ready, is_client_ready}
 use Rattle.world_tables.specs.Turns.{Happening, transcript_of}
-use Rattle.world_tables.specs.World.{World, Packet, Hosted, Lucks, Moved, owner, schema_at, hosted_at, client_at, carried}
-use Rattle.world_tables.specs.World.{step, answering, failing, store_falls, client_falls}
+use Rattle.world_tables.specs.World.{World, Packet, Hosted, Lucks, Moved, owner_of, schema_at, hosted_at, client_at}
+use Rattle.world_tables.specs.World.{carried, step, answering, failing, store_falls, client_falls}
 use Rattle.fair_laws.specs.Worlds.{IsRowOf, IsFairHeader}
 use Rattle.part_tables.specs.ClientParts as at_client
 use Rattle.part_tables.specs.StoreParts as at_store
@@ -71,9 +71,9 @@ pub record IsUnopened (w : World) (c table : ℕ) : Type 0 where
   pub there : client_at w c ≡ Some node
   pub none : table_at (seen node.disk) table ≡ None
 
--- the node takes nothing of the table now
+-- the node takes nothing of the table now; a Store that doesn't keep it never does
 abbrev pub TakesNothing : World → ℕ → Node → Type 0
-TakesNothing w table (nodes.Store n) = is_table_ready w table ≡ false
+TakesNothing w table (nodes.Store n) = (is_table_ready w table ≡ false) ⊎ ((owner_of w table == n) ≡ false)
 TakesNothing w table (nodes.Client c) = (is_client_ready w c ≡ false) ⊎ IsUnopened w c table
 TakesNothing w table (nodes.Gate gate) = Unit {0}
 
@@ -108,7 +108,7 @@ pub record IsFallen (v : Wire) (number : ℕ) (lucks : Lucks) (falls : Moved) : 
 
 -- only what this table has gathered differs
 pub record IsFallenStore (v : Wire) (number : ℕ) (lucks : Lucks) (table : ℕ) : Type 0 where
-  pub fallen : IsFallen v number lucks (store_falls owner v.world)
+  pub fallen : IsFallen v number lucks (store_falls (owner_of v.world table) v.world)
   pub arriving : fallen.kept.arriving ≡ v.arriving
   pub others : (t : ℕ) → t ≢ table → gathered_at fallen.kept t ≡ gathered_at v t
 

@@ -9,7 +9,8 @@ ghost use Rattle.step_tables.specs.Messages as messages;
 ghost use Rattle.step_tables.specs.Sayings.{nothing_said, hear_lines};
 ghost use Rattle.step_tables.specs.ClientMoves.{Client, TableDisk, table_at, seen};
 ghost use Rattle.world_tables.specs.Ready.{is_table_ready, is_client_ready};
-ghost use Rattle.world_tables.specs.World.{Hosted, Lucks, owner, hosted_at, client_at, is_resolving, first_luck};
+ghost use Rattle.world_tables.specs.World.{Hosted, Lucks, owner_of, schema_at, hosted_at, client_at, is_resolving};
+ghost use Rattle.world_tables.specs.World.{first_luck};
 ghost use Rattle.world_tables.specs.Turns.{Happening, turns, transcript_of};
 ghost use Rattle.world_tables.specs.Sound.{IsSound};
 ghost use Rattle.world_tables.specs.Quiet.{AreListed};
@@ -18,6 +19,7 @@ ghost use Rattle.asked_laws.specs.Phases.{is_away, has_phase};
 ghost use Rattle.fair_laws.specs.Reached.{IsReached};
 ghost use Rattle.wire_tables.specs.Wire.{PartPacket, Wire, start, part_table};
 ghost use Rattle.wire_tables.specs.Runs.{wire_from, wire_turns};
+ghost use Rattle.name_laws.specs.Owners.{WasOwner};
 ghost use Rattle.wire_laws.specs.Runs.{AreBuilt, IsRunOf};
 ghost use Rattle.wire_laws.specs.Carried.{IsSent, TakesNothing, IsUntaken, IsAtStore, IsAtClient, IsFallenStore};
 ghost use Rattle.wire_laws.specs.Carried.{IsFallenClient, TellsHistories};
@@ -35,7 +37,7 @@ pub fn every_run_of_wires_is_sound()
     ensures { (run : List Happening) → AreBuilt run → IsSound (wire_turns run) }
 {}
 
-/// In every run of wires a list of a table's chunks, at a quiet Store, has exactly those that its rows name.
+/// In every run of wires a list of a table's chunks, where its owner is quiet, has exactly those that its rows name.
 pub fn every_run_of_wires_lists_chunks()
     ensures { (run : List Happening) → AreBuilt run → AreListed (wire_turns run) }
 {}
@@ -59,10 +61,11 @@ pub fn worlds_of_wires_are_reached()
     ensures { (v : Wire) (run : List Happening) → AreBuilt run → v ≡ wire_from start run → IsReached v.world }
 {}
 
-/// A part that is sent to a Store is for the one Store that there is.
-pub fn parts_go_to_the_store()
+/// A part that is sent to a Store is for the owner that its table had when it was sent, by the Stores that were there
+/// then and by what the table was: its owner now, where no Store has joined since.
+pub fn parts_go_to_the_owner()
     ensures { (v : Wire) (number : ℕ) (p : PartPacket) → IsSent v number p → (n : ℕ) → p.to ≡ nodes.Store n
-        → n ≡ owner }
+        → WasOwner v.world.stores (schema_at v.world (part_table p.part)) n }
 {}
 
 /// Where a part comes, what its node is handed is a message that was sent, or is taken as one, and the event makes of
@@ -71,7 +74,8 @@ pub fn parts_go_to_the_store()
 pub fn parts_are_handed_on_as_packets()
     ensures untaken { (v : Wire) (number : ℕ) (p : PartPacket) → IsSent v number p → (to : Node) → p.to ≡ to
         → TakesNothing v.world (part_table p.part) to → IsUntaken v number p }
-    ensures store { (v : Wire) (number : ℕ) (p : PartPacket) → IsSent v number p → (n : ℕ) → p.to ≡ nodes.Store n
+    ensures store { (v : Wire) (number : ℕ) (p : PartPacket) → IsSent v number p
+        → p.to ≡ nodes.Store (owner_of v.world (part_table p.part))
         → is_table_ready v.world (part_table p.part) ≡ true → (hosted : Hosted)
         → hosted_at v.world (part_table p.part) ≡ Some hosted → IsAtStore v number p hosted }
     ensures client { (v : Wire) (number : ℕ) (p : PartPacket) → IsSent v number p → (c : ℕ) → p.to ≡ nodes.Client c
@@ -82,8 +86,9 @@ pub fn parts_are_handed_on_as_packets()
 /// Where a part comes to a node that would take it, and the node's first device call fails, the node falls, whatever
 /// the part is.
 pub fn nodes_fall_where_their_first_call_fails()
-    ensures store { (v : Wire) (number : ℕ) (p : PartPacket) → IsSent v number p → (lucks : Lucks) → (n : ℕ)
-        → p.to ≡ nodes.Store n → is_table_ready v.world (part_table p.part) ≡ true
+    ensures store { (v : Wire) (number : ℕ) (p : PartPacket) → IsSent v number p → (lucks : Lucks)
+        → p.to ≡ nodes.Store (owner_of v.world (part_table p.part))
+        → is_table_ready v.world (part_table p.part) ≡ true
         → first_luck lucks.calls ≢ messages.Done → IsFallenStore v number lucks (part_table p.part) }
     ensures client { (v : Wire) (number : ℕ) (p : PartPacket) → IsSent v number p → (lucks : Lucks) → (c : ℕ)
         → p.to ≡ nodes.Client c → is_client_ready v.world c ≡ true → first_luck lucks.calls ≢ messages.Done

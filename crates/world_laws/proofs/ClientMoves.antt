@@ -16,7 +16,7 @@ use Rattle.store_laws.proofs.Items.{above, counted_up, one_version, latest_most}
 use Rattle.store_laws.proofs.Grows.{lawful_knows, store_knows}
 use Rattle.client_laws.specs.Part.{Items, Sending, sending_in, sendings, IsLapsed, Ours, OfTable, IsRequest, Requests, ClientPart, ClientLaw}
 use Rattle.client_laws.specs.Part as part
-use Rattle.world_tables.specs.World.{World, Packet, Outbox, after_client, client_at, packets_from, address}
+use Rattle.world_tables.specs.World.{World, Packet, Outbox, after_client, client_at, owner_of, packets_from, address}
 use Rattle.world_laws.proofs.Told.{SaidTold}
 use Rattle.world_laws.proofs.Kept.{KnownIn, IsGood, IsGone, IsLost, IsFairMessage, IsFairPacket, Kept, MoveSound}
 use Rattle.world_laws.proofs.Lines.{out_hear, out_said, all_told}
@@ -188,15 +188,15 @@ module _ (g : ℕ → Scheme) where
       -- the packets that were sent
       fair_sends : (u : Heard) (sends : List Send) → ((n : ℕ) (x : Write) → write_of n u.writes ≡ Some x → write_of n (s'.heard c).writes ≡ Some x)
           → ((r : Sending) → Among (sendings sends) r → Among (Sent c) r) → Requests g c k.items u sends
-          → (p : Packet) → Among (packets_from (nodes.Client c) sends) p → IsFairPacket g s'.heard k.items Sent p
+          → (p : Packet) → Among (packets_from (owner_of w) (nodes.Client c) sends) p → IsFairPacket g s'.heard k.items Sent p
       fair_sends u [] more kept q p a = absurd (among_none p a)
       fair_sends u (send ∷ rest) more kept q p a = ⊎_elim
           (λ e. subst (λ (x : Packet). IsFairPacket g s'.heard k.items Sent x) e (first send.message q.0 (λ r b. kept r (among_left (sending_in send.message) (sendings rest) r b))))
           (λ b. fair_sends u rest more (λ r d. kept r (among_right (sending_in send.message) (sendings rest) r d)) q.1 p b)
-          (among_cons (record { from = nodes.Client c; to = address send.to; message = send.message }) (packets_from (nodes.Client c) rest) p a)
+          (among_cons (record { from = nodes.Client c; to = address (owner_of w) send.to send.message; message = send.message }) (packets_from (owner_of w) (nodes.Client c) rest) p a)
         where
           first : (m : Message) → IsRequest g c k.items u send m → ((r : Sending) → Among (sending_in m) r → Among (Sent c) r)
-              → IsFairMessage g s'.heard k.items Sent (nodes.Client c) (address send.to) m
+              → IsFairMessage g s'.heard k.items Sent (nodes.Client c) (address (owner_of w) send.to m) m
           first (SyncResponse y) f there_2 = absurd f
           first (PullResponse y) f there_2 = absurd f
           first (PullRequest y) f there_2 = sym f.1
@@ -230,13 +230,13 @@ module _ (g : ℕ → Scheme) where
         packets = λ p a. ⊎_elim (λ b. packet_more s.heard s'.heard k.items k.sent Sent writes sends p (k.packets p b))
             (λ b. fair_sends (own_all (s.heard c) step.facts) step.sends (λ n x at. rw here at)
             (λ r d. subst (λ (xs : List Sending). Among xs r) (sym (put_here k.sent c New)) (among_right (k.sent c) (sendings step.sends) r d)) law.sends p b)
-            (among_either w.packets (packets_from (nodes.Client c) step.sends) p a);
+            (among_either w.packets (packets_from (owner_of w) (nodes.Client c) step.sends) p a);
       }
 
     pub client_moves : (number : ℕ) → MoveSound g s w number (after_client w c step)
     client_moves number =
         let says : SaysAll g c k.items (k.sent c) s step.facts = all g c k.items (k.sent c) s k.history step.facts law.facts in
-        let out : Outbox = record { facts = step.facts; packets = packets_from (nodes.Client c) step.sends } in
+        let out : Outbox = record { facts = step.facts; packets = packets_from (owner_of w) (nodes.Client c) step.sends } in
         record {
           lines = out_said g s number out [] says.are tt;
           kept = rw (out_hear g s number out []) (client_kept (hear_all s step.facts) (all_told g s step.facts k.told says.are) says.history says.here says.elsewhere);

@@ -2,7 +2,7 @@
 -- writes that these may begin.
 use Rattle.std.proofs.Common.{◌≡◌, ⊎_elim, ℕ, zero, suc, ◌+◌, ◌≤◌, Bool, true, false, List, [], ◌∷◌, ◌++◌, length, Option, Some, None, Result, Ok, Err, refl, sym, ◌∙◌, subst, arith, length-append}
 use Rattle.std.proofs.Common.{append-nil}
-use Rattle.std.specs.Prelude.{◌==◌, ◌&&◌, option_map, not, nat_le, nat_lt, drop, slice_get, if◌then◌else◌}
+use Rattle.std.specs.Prelude.{◌==◌, ◌&&◌, option_map, nat_le, nat_lt, drop, slice_get, if◌then◌else◌}
 use Rattle.std.specs.Ordering.{nat_cmp}
 use Rattle.std.specs.Map.{lookup}
 use Rattle.std.specs.BTreeMap.{is_at, insert_entry}
@@ -40,8 +40,8 @@ use Rattle.step_tables.specs.StoreMoves.{StoreDisk, StoreChange, StoreTask, Tabl
 use Rattle.step_tables.specs.ClientMoves as client
 use Rattle.step_tables.specs.ClientMoves.{Slots, TableDisk, RowPut, Plan, ClientDisk, ClientChange, ClientTask, Client, ClientMove, Shape, RowOut, no_shape, slots_at, table_at, seen, client_step}
 use Rattle.world_tables.specs.World.{client_until_idle, client_writes, starts_by, client_starts, client_falls, Lucks, first_agenda, with_link, linked, listed, resolve_by}
-use Rattle.world_tables.specs.World.{resolve_each, resolve_all, chosen_of, client_pairs, first_shape, other_shapes, plan_size}
-use Rattle.world_tables.specs.World.{World, Packet, Hosted, Moved, WorldStep, start, hosted_at, client_at, schema_at, scheme_in, chunk_in, owner, the_store, is_down, has_node, tables_of}
+use Rattle.world_tables.specs.World.{resolve_each, resolve_all, chosen_of, client_pairs, first_shape, other_shapes, plan_size, owner_of, has_store, hosted_by}
+use Rattle.world_tables.specs.World.{World, Packet, Hosted, Moved, WorldStep, start, hosted_at, client_at, schema_at, scheme_in, chunk_in, is_down, has_node, tables_of}
 use Rattle.world_tables.specs.World.{still, and_then, and_unless, tasks_in, after_table, move_hosted, move_table, move_there, move_client, first_luck, other_lucks, client_works}
 use Rattle.world_tables.specs.World.{client_tasks, client_follows, tables_fall, without_down, store_falls, or_falls, is_at_work, busy_table, write_next, store_works, tasks_of}
 use Rattle.world_tables.specs.World.{store_until_idle, store_follows, table_follows, declared_late, start_hosted, table_starts, tables_start, store_starts, crash_luck, table_crashes}
@@ -89,9 +89,9 @@ accepting_puts size table items from q item =
     let d = puts_drops (old_names size items item) in
     omega (arith, a, b, c, d)
 
-recovering_puts : (table : ℕ) (d : StoreDisk) → puts_in (store.recovering owner table d) ≡ 0
-recovering_puts table d =
-    let close : StoreTask = store.ends_with store.Close (facts.StoreRecovered owner table) in
+recovering_puts : (node table : ℕ) (d : StoreDisk) → puts_in (store.recovering node table d) ≡ 0
+recovering_puts node table d =
+    let close : StoreTask = store.ends_with store.Close (facts.StoreRecovered node table) in
     let a = puts_join (store.drops (rising d.left)) (close ∷ []) in
     let b = puts_drops (rising d.left) in
     omega (arith, a, b)
@@ -117,15 +117,15 @@ worked_few d agenda messages.Done = done_few d agenda
 worked_few d agenda messages.FailedBefore = crashed_few d agenda messages.FailedBefore
 worked_few d agenda messages.FailedAfter = crashed_few d agenda messages.FailedAfter
 
-started_few : (table : ℕ) (d : StoreDisk) (agenda : Option (List StoreTask)) → versions_of (store.started owner table d agenda).store ≤ length d.items + puts_in (tasks_in agenda)
-started_few table d (Some agenda) = omega arith
-started_few table d None = recover d.pending
+started_few : (node table : ℕ) (d : StoreDisk) (agenda : Option (List StoreTask)) → versions_of (store.started node table d agenda).store ≤ length d.items + puts_in (tasks_in agenda)
+started_few node table d (Some agenda) = omega arith
+started_few node table d None = recover d.pending
   where
-    found : (pending : Stored) (i : Option Stored) → versions_of (store.recovered owner table d pending i).store ≤ length d.items + 0
-    found pending None = let e = recovering_puts table d in omega (arith, e)
-    found pending (Some i) = let e = recovering_puts table d in omega (arith, e)
+    found : (pending : Stored) (i : Option Stored) → versions_of (store.recovered node table d pending i).store ≤ length d.items + 0
+    found pending None = let e = recovering_puts node table d in omega (arith, e)
+    found pending (Some i) = let e = recovering_puts node table d in omega (arith, e)
 
-    recover : (o : Option Stored) → versions_of (store.recover owner table d o).store ≤ length d.items + 0
+    recover : (o : Option Stored) → versions_of (store.recover node table d o).store ≤ length d.items + 0
     recover None = omega arith
     recover (Some pending) = found pending (store.item_at pending.entry.version d.items)
 
@@ -170,11 +170,11 @@ abbrev brings : StoreMove → ℕ
 brings (store.Take from message) = 1
 brings other = 0
 
-table_few : (x : Scheme) (size table : ℕ) (s : TableStore) (move : StoreMove) → versions_of (store_step owner x size table s move).store ≤ versions_of s + brings move
-table_few x size table s (store.Take from m) = taken_few x size table s.disk s.agenda from m
-table_few x size table s (store.Work luck) = let e = worked_few s.disk s.agenda luck in omega (arith, e)
-table_few x size table s (store.Crash luck) = let e = crashed_few s.disk s.agenda luck in omega (arith, e)
-table_few x size table s store.Start = let e = started_few table s.disk s.agenda in omega (arith, e)
+table_few : (node : ℕ) (x : Scheme) (size table : ℕ) (s : TableStore) (move : StoreMove) → versions_of (store_step node x size table s move).store ≤ versions_of s + brings move
+table_few node x size table s (store.Take from m) = taken_few x size table s.disk s.agenda from m
+table_few node x size table s (store.Work luck) = let e = worked_few s.disk s.agenda luck in omega (arith, e)
+table_few node x size table s (store.Crash luck) = let e = crashed_few s.disk s.agenda luck in omega (arith, e)
+table_few node x size table s store.Start = let e = started_few node table s.disk s.agenda in omega (arith, e)
 
 -- ---- a client: no number is above this one, in what its devices stand for and in what it is about to write
 
@@ -604,7 +604,7 @@ move_few n k m w table move less few = go (hosted_at w table) refl
     go (Some hosted) at = (
       put_table k w.tables table _ all.0
           (let old = few.0 table hosted at in
-          let now = table_few (scheme_in (schema_at w table)) (chunk_in (schema_at w table)) table hosted.store move in
+          let now = table_few (owner_of w table) (scheme_in (schema_at w table)) (chunk_in (schema_at w table)) table hosted.store move in
           omega (arith, less, old, now)),
       all.1,
     )
@@ -684,8 +684,8 @@ module _ (n m : ℕ) where
   table_follows_few : (table : ℕ) (lucks : List Luck) (w : World) → AreFew n m w → AreFew n m (table_follows table lucks w).world
   table_follows_few table lucks w few = go (is_at_work w table)
     where
-      go : (busy : Bool) → AreFew n m (if busy then store_follows owner lucks w else still w).world
-      go true = follows_few owner lucks w few
+      go : (busy : Bool) → AreFew n m (if busy then store_follows (owner_of w table) lucks w else still w).world
+      go true = follows_few (owner_of w table) lucks w few
       go false = few
 
   start_few : (w : World) (table : ℕ) → AreFew n m w → AreFew n m (start_hosted w table (hosted_at w table)).world
@@ -695,7 +695,7 @@ module _ (n m : ℕ) where
       go None = few
       go (Some hosted) = made hosted.made
         where
-          made : (b : Bool) → AreFew n m (if b then move_table table store.Start w else after_table w table (record hosted { made = true }) (declared_late table)).world
+          made : (b : Bool) → AreFew n m (if b then move_table table store.Start w else after_table w table (record hosted { made = true }) (declared_late (owner_of w table) table)).world
           made true = move_few n n m w table store.Start (omega arith) few
           made false = (put_table n w.tables table _ few.0 (omega arith), few.1)
 
@@ -717,13 +717,13 @@ module _ (n m : ℕ) where
       tables = tables_of w node
 
       x : Moved
-      x = tables_start tables lucks w
+      x = and_then (tables_fall tables w) (tables_start tables lucks)
 
       there : AreFew n m x.world
-      there = starts_few tables lucks w few
+      there = starts_few tables lucks (tables_fall tables w).world (falls_few tables w few)
 
-      go : (failed : Bool) → AreFew n m (if failed then and_then x (tables_fall tables) else and_then x (λ v. store_follows node (drop (length tables) lucks) (without_down (nodes.Store node) v))).world
-      go true = falls_few tables x.world there
+      go : (failed : Bool) → AreFew n m (if failed then and_then x (store_falls node) else and_then x (λ v. store_follows node (drop (length tables) lucks) (without_down (nodes.Store node) v))).world
+      go true = store_falls_few node x.world there
       go false = follows_few node (drop (length tables) lucks) (without_down (nodes.Store node) x.world) there
 
   crashes_few : (node calls : ℕ) (lucks : List Luck) (w : World) → AreFew n m w → AreFew n m (store_crashes node calls lucks w).world
@@ -904,8 +904,8 @@ module _ (n m : ℕ) (w : World) (few : AreFew n m w) where
       first = move_few n (n + 1) (m + 1) w table (store.Take from message) (omega arith) (few.0, after.1)
 
       reads : (luck : Luck) → AreFew (n + 1) (m + 1) (take_read w table hosted (store.Take from message) (other_lucks lucks) luck).world
-      reads messages.FailedBefore = store_falls_few (n + 1) (m + 1) owner w after
-      reads messages.FailedAfter = store_falls_few (n + 1) (m + 1) owner w after
+      reads messages.FailedBefore = store_falls_few (n + 1) (m + 1) (owner_of w table) w after
+      reads messages.FailedAfter = store_falls_few (n + 1) (m + 1) (owner_of w table) w after
       reads messages.Done = table_follows_few (n + 1) (m + 1) table (other_lucks lucks) (move_table table (store.Take from message) w).world first
 
       go : (o : Option (List StoreTask)) → AreFew (n + 1) (m + 1) (take_at w table hosted (store.Take from message) lucks o).world
@@ -914,7 +914,7 @@ module _ (n m : ℕ) (w : World) (few : AreFew n m w) where
       go (Some []) = reads (first_luck lucks)
 
   carried_few : (p : Packet) (shape : Shape) (lucks : List Luck) (to : Node) → AreFew (n + 1) (m + 1) (carried w p shape lucks to).world
-  carried_few p shape lucks (nodes.Store number) = down_few (nodes.Store number) _ (hosted_few (table_of p.message) p.from p.message lucks (hosted_at w (table_of p.message)))
+  carried_few p shape lucks (nodes.Store number) = down_few (nodes.Store number) _ (hosted_few (table_of p.message) p.from p.message lucks (hosted_by w number (table_of p.message)))
   carried_few p shape lucks (nodes.Gate gate) = after
   carried_few p shape lucks (nodes.Client c) = go (client_at w c) refl
     where
@@ -933,17 +933,17 @@ module _ (n m : ℕ) (w : World) (few : AreFew n m w) where
   declared_few table schema luck (Some hosted) = after
   declared_few table schema luck None = go luck
     where
-      with_new : (made up : Bool) → AreFew (n + 1) (m + 1) (with_table w table schema made up)
-      with_new made up = (put_table (n + 1) w.tables table _ after.0 (none up), after.1)
+      with_new : (made : Bool) → AreFew (n + 1) (m + 1) (with_table w table schema made)
+      with_new made = (put_table (n + 1) w.tables table _ after.0 (none made), after.1)
         where
           none : (b : Bool) → versions_of (record { disk = record { items = []; pending = None; left = [] }; agenda = agenda_of b }) ≤ n + 1
           none true = omega arith
           none false = omega arith
 
       go : (x : Luck) → AreFew (n + 1) (m + 1) (declared w table schema x None)
-      go messages.Done = with_new true (not (is_down w the_store))
-      go messages.FailedBefore = store_falls_few (n + 1) (m + 1) owner (with_table w table schema false false) (with_new false false)
-      go messages.FailedAfter = store_falls_few (n + 1) (m + 1) owner (with_table w table schema false false) (with_new false false)
+      go messages.Done = with_new true
+      go messages.FailedBefore = with_new false
+      go messages.FailedAfter = with_new false
 
   joined_few : (c : ℕ) (tables : List ℕ) (luck : Luck) (o : Option Client) → AreFew (n + 1) (m + 1) (joined w c tables luck o)
   joined_few c tables luck (Some node) = after
@@ -962,14 +962,14 @@ module _ (n m : ℕ) (w : World) (few : AreFew n m w) where
       moved true = after
       moved false = after
 
-  shows_few : (row : List ℕ) (lucks : List Luck) (o : Option Hosted) → AreFew (n + 1) (m + 1) (store_shows w row lucks o).world
-  shows_few row lucks None = after
-  shows_few row lucks (Some hosted) = down_few the_store _ (read (first_luck lucks))
+  shows_few : (table : ℕ) (row : List ℕ) (lucks : List Luck) (o : Option Hosted) → AreFew (n + 1) (m + 1) (store_shows w table row lucks o).world
+  shows_few table row lucks None = after
+  shows_few table row lucks (Some hosted) = down_few (nodes.Store (owner_of w table)) _ (read (first_luck lucks))
     where
-      read : (luck : Luck) → AreFew (n + 1) (m + 1) (row_read w hosted row luck).world
+      read : (luck : Luck) → AreFew (n + 1) (m + 1) (row_read w table hosted row luck).world
       read messages.Done = after
-      read messages.FailedBefore = store_falls_few (n + 1) (m + 1) owner w after
-      read messages.FailedAfter = store_falls_few (n + 1) (m + 1) owner w after
+      read messages.FailedBefore = store_falls_few (n + 1) (m + 1) (owner_of w table) w after
+      read messages.FailedAfter = store_falls_few (n + 1) (m + 1) (owner_of w table) w after
 
   history_few : (table : ℕ) (o : Option Hosted) → AreFew (n + 1) (m + 1) (history_lines w table o).world
   history_few table None = after
@@ -977,7 +977,7 @@ module _ (n m : ℕ) (w : World) (few : AreFew n m w) where
 
   chunks_few : (table : ℕ) (o : Option Hosted) → AreFew (n + 1) (m + 1) (chunk_names w table o).world
   chunks_few table None = after
-  chunks_few table (Some hosted) = down_few the_store _ after
+  chunks_few table (Some hosted) = down_few (nodes.Store (owner_of w table)) _ after
 
   -- ---- what is done to a node
 
@@ -1008,7 +1008,7 @@ module _ (n m : ℕ) (w : World) (few : AreFew n m w) where
       go true = started_by (first_luck lucks) (other_lucks lucks)
       go false = after
   started_node_few shape lucks (nodes.Gate gate) = after
-  started_node_few shape lucks (nodes.Store number) = go (is_down w (nodes.Store number))
+  started_node_few shape lucks (nodes.Store number) = go (has_store w number && is_down w (nodes.Store number))
     where
       go : (b : Bool) → AreFew (n + 1) (m + 1) (if b then answering facts.Done (store_starts number lucks w) else answered w facts.Done).world
       go true = store_starts_few (n + 1) (m + 1) number lucks w after
@@ -1031,7 +1031,7 @@ module _ (n m : ℕ) (w : World) (few : AreFew n m w) where
   step_few (events.Resolve c table row version choice) lucks = resolve_event c table row version choice lucks.shape lucks.calls
   step_few (events.ResolveAll c table by) lucks = resolve_all_event c table by lucks.shape lucks.shapes lucks.calls (other_lucks lucks.calls)
   step_few (events.Deliver packet) lucks = delivered_few lucks.shape lucks.calls (slice_get w.packets packet)
-  step_few (events.StoreShow table row) lucks = shows_few row lucks.calls (hosted_at w table)
+  step_few (events.StoreShow table row) lucks = shows_few table row lucks.calls (hosted_at w table)
   step_few (events.History table) lucks = history_few table (hosted_at w table)
   step_few (events.Chunks table) lucks = chunks_few table (hosted_at w table)
   step_few (events.Hold node) lucks = down_few node _ after

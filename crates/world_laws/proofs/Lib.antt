@@ -3,6 +3,7 @@ pub mod Kept
 pub mod Lines
 pub mod Changes
 pub mod Looks
+pub mod Owners
 pub mod Calls
 pub mod Orders
 pub mod Ups

@@ -5,7 +5,7 @@ use Rattle.stab_base.specs.declared.node.Node.{Node}
 use Rattle.row_value.specs.declared.schema.Scheme.{Scheme}
 use Rattle.step_tables.specs.Facts.{Line}
 use Rattle.step_tables.specs.Sayings.{Said, hear_lines}
-use Rattle.world_tables.specs.World.{World, Moved, still, and_then, and_unless, failing, lines_from}
+use Rattle.world_tables.specs.World.{World, Moved, with_store, still, and_then, and_unless, failing, lines_from}
 use Rattle.world_tables.specs.Sound.{AreSaid}
 use Rattle.world_laws.proofs.Kept.{Kept, MoveSound}
 use Rattle.world_laws.proofs.Lines.{hear-append, said-append, lines-append, sent_by}
@@ -36,6 +36,29 @@ module _ (g : ℕ → Scheme) where
   pub nodes_sound : (w : World) (s : Said) (number : ℕ) (holds downs cuts : List Node) → Kept g w s
       → MoveSound g s w number (still (record w { holds = holds; downs = downs; cuts = cuts }))
   nodes_sound w s number holds downs cuts k = record { lines = tt; kept = nodes_kept w s holds downs cuts k; there = λ table none. none }
+
+  -- nor which Stores there are
+  pub store_sound : (w : World) (s : Said) (node number : ℕ) → Kept g w s → MoveSound g s w number (still (with_store node w))
+  store_sound w s node number k = record {
+    lines = tt;
+    kept = record {
+      items = k.items;
+      sent = k.sent;
+      told = k.told;
+      history = k.history;
+      lawful = k.lawful;
+      schemes = k.schemes;
+      declared = k.declared;
+      tables = k.tables;
+      stores = k.stores;
+      unmade = k.unmade;
+      no_store = k.no_store;
+      clients = k.clients;
+      no_client = k.no_client;
+      packets = k.packets;
+    };
+    there = λ table none. none;
+  }
 
   -- nor which phases are open
   unfoldable pub phases_kept : (w : World) (s : Said) (phases : List (ℕ × ℕ)) → Kept g w s → Kept g (record w { phases = phases }) s

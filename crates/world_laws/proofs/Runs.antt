@@ -1,7 +1,7 @@
 -- Every event keeps the world, and every run is sound.
 use Rattle.std.proofs.Common.{◌≡◌, ℕ, ◌+◌, Bool, true, false, List, [], ◌∷◌, ◌++◌, length, Option, Some, None, refl, sym, ap, ◌∙◌, subst, arith, inl, inr, ⊎_elim, append-nil}
 use Rattle.std.proofs.Common.{true≢false}
-use Rattle.std.specs.Prelude.{map, drop, slice_get, ◌==◌, not, if◌then◌else◌}
+use Rattle.std.specs.Prelude.{map, drop, slice_get, ◌==◌, ◌&&◌, if◌then◌else◌}
 use Rattle.std.proofs.lemmas.Bool.Decides.{nat_tests}
 use Rattle.std.specs.Ordering.{nat_cmp}
 use Rattle.std.specs.Map.{lookup}
@@ -41,10 +41,10 @@ use Rattle.client_laws.proofs.PlanRuns as plan_runs
 use Rattle.world_tables.specs.World.{has_node, packets_from, crash_luck, client_until_idle, client_writes, starts_by, client_starts, client_crashes, client_falls, next_write}
 use Rattle.world_tables.specs.World.{Lucks, first_agenda, with_link, linked, with_phases, after_client, listed, and_unless, resolve_by, resolve_each, resolve_all, chosen_of}
 use Rattle.world_tables.specs.World.{client_pairs, first_shape, other_shapes, plan_size}
-use Rattle.world_tables.specs.World.{World, Packet, Hosted, Outbox, Moved, WorldStep, start, chunk_in, schema_at, hosted_at, client_at, scheme_in, owner, the_store, is_down, still, and_then, failing}
+use Rattle.world_tables.specs.World.{World, Packet, Hosted, Outbox, Moved, WorldStep, start, chunk_in, schema_at, hosted_at, client_at, scheme_in, owner_of, is_down, still, and_then, failing}
 use Rattle.world_tables.specs.World.{after_table, table_step, move_hosted}
 use Rattle.world_tables.specs.World.{move_table, move_there, move_client, first_luck, other_lucks, client_works, client_tasks, client_follows, table_follows, store_falls, declared_late}
-use Rattle.world_tables.specs.World.{start_hosted}
+use Rattle.world_tables.specs.World.{start_hosted, has_store, hosted_by}
 use Rattle.world_tables.specs.World.{answering, answered, refused, silent, unless_down, agenda_of, with_table, made_with, declared, opened, with_opened, open_all, new_client, joined, gets_tasks}
 use Rattle.world_tables.specs.World.{client_follows_from}
 use Rattle.world_tables.specs.World.{call_there, call, take_read, take_at, to_hosted, to_there, carried, delivered}
@@ -58,10 +58,10 @@ use Rattle.world_laws.proofs.Kept.{KnownIn, IsFairPacket, nothing_there, Kept, M
 use Rattle.world_laws.proofs.Kept as kept
 use Rattle.world_laws.proofs.Looks.{look_cases}
 use Rattle.world_laws.proofs.Lines.{hear-append, said-append}
-use Rattle.world_laws.proofs.Orders.{still_sound, nodes_sound, phases_kept, both_sound, unless_sound, failing_sound}
-use Rattle.world_laws.proofs.StoreWorks.{silent_lines, store_falls_silent, crashes_silent, store_falls_there}
+use Rattle.world_laws.proofs.Orders.{still_sound, nodes_sound, store_sound, phases_kept, both_sound, unless_sound, failing_sound}
+use Rattle.world_laws.proofs.StoreWorks.{silent_lines, store_falls_silent, crashes_silent}
 use Rattle.world_laws.proofs.StoreWorks as works
-use Rattle.world_laws.proofs.Ups.{IsUp, start_up, step_up}
+use Rattle.world_laws.proofs.Ups.{IsUp, up_there, start_up, step_up}
 use Rattle.world_laws.proofs.ClientMoves.{ours, client_moves}
 use Rattle.world_laws.proofs.TableMoves.{ClientGrows, LapsedGrows}
 use Rattle.world_laws.proofs.StoreMoves.{table_moves}
@@ -91,10 +91,10 @@ module _ (client_law : ClientLaws) (client_grows : ClientGrows) (lapsed_grows : 
   IsNoStart store.Start = ⊥
   IsNoStart other = Unit {0}
 
-  stays_unmade : (x : Scheme) (size table : ℕ) (was : TableStore) (move : StoreMove) → was ≡ nothing_there → IsNoStart move → (store_step owner x size table was move).store ≡ nothing_there
-  stays_unmade x size table was move is unstarted = rw is (nothing_taken x size table move unstarted)
+  stays_unmade : (node : ℕ) (x : Scheme) (size table : ℕ) (was : TableStore) (move : StoreMove) → was ≡ nothing_there → IsNoStart move → (store_step node x size table was move).store ≡ nothing_there
+  stays_unmade node x size table was move is unstarted = rw is (nothing_taken x size table move unstarted)
     where
-      nothing_taken : (x : Scheme) (size table : ℕ) (move : StoreMove) → IsNoStart move → (store_step owner x size table nothing_there move).store ≡ nothing_there
+      nothing_taken : (x : Scheme) (size table : ℕ) (move : StoreMove) → IsNoStart move → (store_step node x size table nothing_there move).store ≡ nothing_there
       nothing_taken x size table (store.Take from m) f = refl
       nothing_taken x size table (store.Work messages.Done) f = refl
       nothing_taken x size table (store.Work messages.FailedBefore) f = refl
@@ -117,9 +117,9 @@ module _ (client_law : ClientLaws) (client_grows : ClientGrows) (lapsed_grows : 
     table_law : (table : ℕ) (hosted : Hosted) → hosted_at w table ≡ Some hosted → (move : StoreMove) → store_part.IsFair table (KnownIn s.heard k.sent table) (k.items table) move
         → StoreLaw (g table) table (KnownIn s.heard k.sent table) (k.items table) (table_step w table hosted move)
     table_law table hosted at move fair =
-        subst (λ (x : Scheme). StoreLaw (g table) table (KnownIn s.heard k.sent table) (k.items table) (store_step owner x (chunk_in (schema_at w table)) table hosted.store move))
+        subst (λ (x : Scheme). StoreLaw (g table) table (KnownIn s.heard k.sent table) (k.items table) (store_step (owner_of w table) x (chunk_in (schema_at w table)) table hosted.store move))
         (sym (scheme_is table hosted at))
-        (store_law (g table) table (KnownIn s.heard k.sent table) owner (chunk_in (schema_at w table)) (k.items table) hosted.store move fair (k.stores table hosted at).0)
+        (store_law (g table) table (KnownIn s.heard k.sent table) (owner_of w table) (chunk_in (schema_at w table)) (k.items table) hosted.store move fair (k.stores table hosted at).0)
 
     -- a table that isn't made takes nothing
     table_move : (table : ℕ) (move : StoreMove) (number : ℕ) → ((hosted : Hosted) → hosted_at w table ≡ Some hosted → store_part.IsFair table (KnownIn s.heard k.sent table) (k.items table) move)
@@ -129,13 +129,15 @@ module _ (client_law : ClientLaws) (client_grows : ClientGrows) (lapsed_grows : 
         go : (o : Option Hosted) → hosted_at w table ≡ o → MoveSound g s w number (move_hosted w table move o)
         go None at = still_sound g w s number k
         go (Some hosted) at = table_moves client_grows lapsed_grows g w s k table hosted (hosted, at, refl) (table_step w table hosted move)
-            (λ unmade. stays_unmade (scheme_in (schema_at w table)) (chunk_in (schema_at w table)) table hosted.store move (k.unmade table hosted at unmade) (unstarted hosted at unmade))
+            (λ unmade. stays_unmade (owner_of w table) (scheme_in (schema_at w table)) (chunk_in (schema_at w table)) table hosted.store move
+            (k.unmade table hosted at unmade) (unstarted hosted at unmade))
             (table_law table hosted at move (fair hosted at)) number
 
     -- a table whose declaration failed is declared at the Store's start
     late_declared : (table : ℕ) (hosted : Hosted) → hosted_at w table ≡ Some hosted → hosted.made ≡ false → (number : ℕ)
-        → MoveSound g s w number (after_table w table (record hosted { made = true }) (declared_late table))
-    late_declared table hosted at unmade number = table_moves client_grows lapsed_grows g w s k table (record hosted { made = true }) (hosted, at, refl) (declared_late table) (λ no. absurd cc)
+        → MoveSound g s w number (after_table w table (record hosted { made = true }) (declared_late (owner_of w table) table))
+    late_declared table hosted at unmade number =
+        table_moves client_grows lapsed_grows g w s k table (record hosted { made = true }) (hosted, at, refl) (declared_late (owner_of w table) table) (λ no. absurd cc)
         (record {
           later = k.items table;
           facts = (k.items table, refl, refl);
@@ -152,7 +154,7 @@ module _ (client_law : ClientLaws) (client_grows : ClientGrows) (lapsed_grows : 
         go (Some hosted) at = made hosted.made refl
           where
             made : (b : Bool) → hosted.made ≡ b
-                → MoveSound g s w number (if b then move_table table store.Start w else after_table w table (record hosted { made = true }) (declared_late table))
+                → MoveSound g s w number (if b then move_table table store.Start w else after_table w table (record hosted { made = true }) (declared_late (owner_of w table) table))
             made false is = late_declared table hosted at is number
             made true is = table_move table store.Start number (λ x there. tt)
                 (λ x there unmade.
@@ -227,7 +229,7 @@ module _ (client_law : ClientLaws) (client_grows : ClientGrows) (lapsed_grows : 
 
       go : (o : Option Client) → works.AreSilent (move_there w c (client.Crash luck) no_shape o).outs
       go None = tt
-      go (Some node) = let q = quiet node.disk node.agenda luck in (q.0, ap (packets_from (nodes.Client c)) q.1, tt)
+      go (Some node) = let q = quiet node.disk node.agenda luck in (q.0, ap (packets_from (owner_of w) (nodes.Client c)) q.1, tt)
 
   -- ---- all conflicts of a table
 
@@ -578,18 +580,18 @@ module _ (client_law : ClientLaws) (client_grows : ClientGrows) (lapsed_grows : 
     client_fair c from (TornRowResponse q) f = subst (λ (x : ℕ). part.IsTornHeader x (k.items q.table) q.header) (sym f.0) f.1
 
     -- a device call that fails takes the Store down
-    failed_sound : (event : Event) → CanTurn s event → IsQuiet event [] → IsGoodAnswer s event (facts.Refuses facts.NoDevice)
-        → StepSound s w event (answering facts.Done (failing (store_falls owner w)))
-    failed_sound event turn quiet fault =
-        telling_sound s w event (facts.Refuses facts.NoDevice) (failing (store_falls owner w)) turn []
-        (silent_lines (length w.packets) (store_falls owner w).outs (store_falls_silent owner w)) quiet fault fault
-        (failing_sound g w s (length w.packets) (store_falls owner w) (works.store_falls_sound g table_work owner w s (length w.packets) k))
+    failed_sound : (event : Event) (node : ℕ) → CanTurn s event → IsQuiet event [] → IsGoodAnswer s event (facts.Refuses facts.NoDevice)
+        → StepSound s w event (answering facts.Done (failing (store_falls node w)))
+    failed_sound event node turn quiet fault =
+        telling_sound s w event (facts.Refuses facts.NoDevice) (failing (store_falls node w)) turn []
+        (silent_lines (length w.packets) (store_falls node w).outs (store_falls_silent node w)) quiet fault fault
+        (failing_sound g w s (length w.packets) (store_falls node w) (works.store_falls_sound g table_work node w s (length w.packets) k))
 
     hosted_sound : (n : ℕ) (table : ℕ) (from : Node) (m : Message) (lucks : List Luck) → store_part.IsFair table (KnownIn s.heard k.sent table) (k.items table) (store.Take from m)
-        → (o : Option Hosted) → hosted_at w table ≡ o → StepSound s w (events.Deliver n) (to_hosted w table (store.Take from m) lucks o)
-    hosted_sound n table from m lucks fair None at =
+        → (o : Option Hosted) → StepSound s w (events.Deliver n) (to_hosted w table (store.Take from m) lucks o)
+    hosted_sound n table from m lucks fair None =
         answered_sound w s k (events.Deliver n) facts.Done (λ lines a. a) tt (delivered_good n facts.Done tt) (delivered_good n (facts.Refuses facts.NoDevice) tt)
-    hosted_sound n table from m lucks fair (Some hosted) at = go hosted.store.agenda
+    hosted_sound n table from m lucks fair (Some hosted) = go hosted.store.agenda
       where
         first : MoveSound g s w (length w.packets) (move_table table (store.Take from m) w)
         first = table_move w s k table (store.Take from m) (length w.packets) (λ x is. fair) (λ x is unmade. tt)
@@ -601,8 +603,8 @@ module _ (client_law : ClientLaws) (client_grows : ClientGrows) (lapsed_grows : 
         alone = answering_sound s w (events.Deliver n) (table_step w table hosted (store.Take from m)).answer (move_table table (store.Take from m) w) (λ lines a. a) tt
             (delivered_good n _ form) (delivered_good n (facts.Refuses facts.NoDevice) tt) first
 
-        failed : StepSound s w (events.Deliver n) (answering facts.Done (failing (store_falls owner w)))
-        failed = failed_sound (events.Deliver n) (λ lines a. a) tt (delivered_good n (facts.Refuses facts.NoDevice) tt)
+        failed : StepSound s w (events.Deliver n) (answering facts.Done (failing (store_falls (owner_of w table) w)))
+        failed = failed_sound (events.Deliver n) (owner_of w table) (λ lines a. a) tt (delivered_good n (facts.Refuses facts.NoDevice) tt)
 
         reads : (luck : Luck) → StepSound s w (events.Deliver n) (take_read w table hosted (store.Take from m) (other_lucks lucks) luck)
         reads messages.FailedBefore = failed
@@ -633,7 +635,7 @@ module _ (client_law : ClientLaws) (client_grows : ClientGrows) (lapsed_grows : 
     carried_sound n p shape lucks fair (nodes.Store number) is =
         unless_down_sound w s k (events.Deliver n) (nodes.Store number) _ (λ lines a. a) tt
         (delivered_good n (facts.Refuses (facts.NodeDown (nodes.Store number))) tt) (delivered_good n (facts.Refuses facts.NoDevice) tt)
-        (λ up. hosted_sound n (table_of p.message) p.from p.message lucks (store_fair p.from p.to p.message fair) (hosted_at w (table_of p.message)) refl)
+        (λ up. hosted_sound n (table_of p.message) p.from p.message lucks (store_fair p.from p.to p.message fair) (hosted_by w number (table_of p.message)))
     carried_sound n p shape lucks fair (nodes.Client c) is =
         taken_sound n c p.message shape lucks (client_fair c p.from p.message (subst (λ (x : Node). kept.IsFairMessage g s.heard k.items k.sent p.from x p.message) is fair)) (client_at w c) refl
     carried_sound n p shape lucks fair (nodes.Gate gate) is =
@@ -665,8 +667,8 @@ module _ (client_law : ClientLaws) (client_grows : ClientGrows) (lapsed_grows : 
         good (facts.Names y) f z = absurd f
         good (facts.Pairs y) f z = absurd f
 
-    failed_show : (table : ℕ) (row : List ℕ) → StepSound s w (events.StoreShow table row) (answering facts.Done (failing (store_falls owner w)))
-    failed_show table row = failed_sound (events.StoreShow table row) (λ lines x. x) refl (record { form = tt; counts = refl; is = tt })
+    failed_show : (table : ℕ) (row : List ℕ) → StepSound s w (events.StoreShow table row) (answering facts.Done (failing (store_falls (owner_of w table) w)))
+    failed_show table row = failed_sound (events.StoreShow table row) (owner_of w table) (λ lines x. x) refl (record { form = tt; counts = refl; is = tt })
 
     row_form : (table : ℕ) (row : List ℕ) (o : Option Stored) → IsForm (events.StoreShow table row) (row_shown o)
     row_form table row None = tt
@@ -680,17 +682,18 @@ module _ (client_law : ClientLaws) (client_grows : ClientGrows) (lapsed_grows : 
         items (task ∷ more) r = r.0.items
 
     read_sound : (table : ℕ) (row : List ℕ) (hosted : Hosted) → hosted_at w table ≡ Some hosted → (agenda : List StoreTask) → hosted.store.agenda ≡ Some agenda → (luck : Luck)
-        → StepSound s w (events.StoreShow table row) (row_read w hosted row luck)
+        → StepSound s w (events.StoreShow table row) (row_read w table hosted row luck)
     read_sound table row hosted at agenda up messages.Done = stored_sound table row (row_shown (current_of hosted.store.disk.items row)) (row_form table row (current_of hosted.store.disk.items row))
         (row_stored g w s k table row (current_of hosted.store.disk.items row) (ap (λ (xs : List Stored). current_of xs row) (sym (up_items table hosted at agenda up))))
     read_sound table row hosted at agenda up messages.FailedBefore = failed_show table row
     read_sound table row hosted at agenda up messages.FailedAfter = failed_show table row
 
-    shows_sound : IsUp w → (table : ℕ) (row : List ℕ) (lucks : List Luck) (o : Option Hosted) → hosted_at w table ≡ o → StepSound s w (events.StoreShow table row) (store_shows w row lucks o)
+    shows_sound : IsUp w → (table : ℕ) (row : List ℕ) (lucks : List Luck) (o : Option Hosted) → hosted_at w table ≡ o → StepSound s w (events.StoreShow table row) (store_shows w table row lucks o)
     shows_sound is_up table row lucks None at = stored_sound table row (facts.Refuses facts.NoTable) tt tt
     shows_sound is_up table row lucks (Some hosted) at =
-        unless_down_sound w s k (events.StoreShow table row) the_store _ (λ lines x. x) refl (record { form = tt; counts = refl; is = tt }) (record { form = tt; counts = refl; is = tt })
-        (λ up. let agenda = is_up up table hosted at in read_sound table row hosted at agenda.0 agenda.1 (first_luck lucks))
+        unless_down_sound w s k (events.StoreShow table row) (nodes.Store (owner_of w table)) _ (λ lines x. x) refl
+        (record { form = tt; counts = refl; is = tt }) (record { form = tt; counts = refl; is = tt })
+        (λ up. let agenda = (up_there w is_up table hosted at up).1 in read_sound table row hosted at agenda.0 agenda.1 (first_luck lucks))
 
     names_sound : (table : ℕ) (names : List ChunkName) → StepSound s w (events.Chunks table) (answered w (names_answer names))
     names_sound table [] =
@@ -703,7 +706,8 @@ module _ (client_law : ClientLaws) (client_grows : ClientGrows) (lapsed_grows : 
     chunks_sound table None =
         answered_sound w s k (events.Chunks table) (facts.Refuses facts.NoTable) (λ lines x. x) refl (record { form = tt; counts = refl; is = tt }) (record { form = tt; counts = refl; is = tt })
     chunks_sound table (Some hosted) =
-        unless_down_sound w s k (events.Chunks table) the_store _ (λ lines x. x) refl (record { form = tt; counts = refl; is = tt }) (record { form = tt; counts = refl; is = tt })
+        unless_down_sound w s k (events.Chunks table) (nodes.Store (owner_of w table)) _ (λ lines x. x) refl
+        (record { form = tt; counts = refl; is = tt }) (record { form = tt; counts = refl; is = tt })
         (λ up. names_sound table (names_on (chunk_in (schema_at w table)) hosted.store.disk))
 
     entries_say : (table : ℕ) (x : Said) (es : List Entry) → hear_lines x (entry_lines table es) ≡ x
@@ -740,9 +744,8 @@ module _ (client_law : ClientLaws) (client_grows : ClientGrows) (lapsed_grows : 
 
     -- ---- declarations
 
-    pub with_table_kept : (table : ℕ) (schema : Schema) (made up : Bool) → (made ≡ false → up ≡ false) → hosted_at w table ≡ None → schema.scheme ≡ g table
-        → Kept g (with_table w table schema made up) s
-    with_table_kept table schema made up unmade none scheme = record {
+    pub with_table_kept : (table : ℕ) (schema : Schema) (made : Bool) → hosted_at w table ≡ None → schema.scheme ≡ g table → Kept g (with_table w table schema made) s
+    with_table_kept table schema made none scheme = record {
       items = k.items;
       sent = k.sent;
       told = k.told;
@@ -762,7 +765,7 @@ module _ (client_law : ClientLaws) (client_grows : ClientGrows) (lapsed_grows : 
       unmade = λ q x at. ⊎_elim
           (λ e. let both : Some new ≡ Some x = sym e.1 ∙ at in let same : new ≡ x = cc in
           subst (λ (y : Hosted). y.made ≡ false → y.store ≡ nothing_there) same
-          (λ is. ap (λ (b : Bool). record { disk = record { items = []; pending = None; left = [] }; agenda = agenda_of b }) (unmade is)))
+          (λ is. ap (λ (b : Bool). record { disk = record { items = []; pending = None; left = [] }; agenda = agenda_of b }) is))
           (λ e. k.unmade q x (sym e.1 ∙ at)) (look_cases w.tables table new q);
       no_store = λ q at. ⊎_elim (λ e. absurd (let both : Some new ≡ None = sym e.1 ∙ at in cc)) (λ e. k.no_store q (sym e.1 ∙ at)) (look_cases w.tables table new q);
       clients = k.clients;
@@ -771,35 +774,28 @@ module _ (client_law : ClientLaws) (client_grows : ClientGrows) (lapsed_grows : 
     }
       where
         new : Hosted
-        new = record { store = record { disk = record { items = []; pending = None; left = [] }; agenda = agenda_of up }; history = []; made = made }
+        new = record { store = record { disk = record { items = []; pending = None; left = [] }; agenda = agenda_of made }; history = []; made = made }
 
         new_state : (q : ℕ) → k.items q ≡ [] → (b : Bool) → store_part.IsAt (g q) q (KnownIn s.heard k.sent q) (k.items q) new.store.disk (agenda_of b)
         new_state q empty true = (record { items = sym empty; open_entry = λ i at. absurd cc }, refl)
         new_state q empty false = inl (record { items = sym empty; open_entry = λ i at. absurd cc })
 
         new_part : (q : ℕ) → k.items q ≡ [] → StorePart (g q) q (KnownIn s.heard k.sent q) (k.items q) new.store × (new.history ≡ s.history q)
-        new_part q empty = (record { lawful = k.tables q; state = new_state q empty up }, sym (ap entries_of empty) ∙ sym (k.history q))
+        new_part q empty = (record { lawful = k.tables q; state = new_state q empty made }, sym (ap entries_of empty) ∙ sym (k.history q))
 
-    with_table_there : (table : ℕ) (schema : Schema) (made up : Bool) → hosted_at w table ≡ None → (q : ℕ) → hosted_at (with_table w table schema made up) q ≡ None → hosted_at w q ≡ None
-    with_table_there table schema made up at q none = ⊎_elim (λ e. ap (hosted_at w) e.0 ∙ at) (λ e. sym e.1 ∙ none)
-        (look_cases w.tables table (record { store = record { disk = record { items = []; pending = None; left = [] }; agenda = agenda_of up }; history = []; made = made }) q)
-
-    -- a declaration whose disk failed
-    fallen_kept : (table : ℕ) (schema : Schema) → hosted_at w table ≡ None → schema.scheme ≡ g table → Kept g (store_falls owner (with_table w table schema false false)).world s
-    fallen_kept table schema none scheme =
-        let x : World = with_table w table schema false false in
-        subst (λ (ls : List Line). Kept g (store_falls owner x).world (hear_lines s ls)) (silent_lines 0 (store_falls owner x).outs (store_falls_silent owner x))
-        (works.store_falls_sound g table_work owner x s 0 (with_table_kept table schema false false (λ is. refl) none scheme)).kept
+    with_table_there : (table : ℕ) (schema : Schema) (made : Bool) → hosted_at w table ≡ None → (q : ℕ) → hosted_at (with_table w table schema made) q ≡ None → hosted_at w q ≡ None
+    with_table_there table schema made at q none = ⊎_elim (λ e. ap (hosted_at w) e.0 ∙ at) (λ e. sym e.1 ∙ none)
+        (look_cases w.tables table (record { store = record { disk = record { items = []; pending = None; left = [] }; agenda = agenda_of made }; history = []; made = made }) q)
 
     declared_kept : (table : ℕ) (schema : Schema) (luck : Luck) → hosted_at w table ≡ None → schema.scheme ≡ g table → Kept g (made_with w table schema luck) s
-    declared_kept table schema messages.Done none scheme = with_table_kept table schema true (not (is_down w the_store)) (λ no. absurd cc) none scheme
-    declared_kept table schema messages.FailedBefore none scheme = fallen_kept table schema none scheme
-    declared_kept table schema messages.FailedAfter none scheme = fallen_kept table schema none scheme
+    declared_kept table schema messages.Done none scheme = with_table_kept table schema true none scheme
+    declared_kept table schema messages.FailedBefore none scheme = with_table_kept table schema false none scheme
+    declared_kept table schema messages.FailedAfter none scheme = with_table_kept table schema false none scheme
 
     declared_there : (table : ℕ) (schema : Schema) (luck : Luck) → hosted_at w table ≡ None → (q : ℕ) → hosted_at (made_with w table schema luck) q ≡ None → hosted_at w q ≡ None
-    declared_there table schema messages.Done at q none = with_table_there table schema true (not (is_down w the_store)) at q none
-    declared_there table schema messages.FailedBefore at q none = with_table_there table schema false false at q (store_falls_there owner (with_table w table schema false false) q none)
-    declared_there table schema messages.FailedAfter at q none = with_table_there table schema false false at q (store_falls_there owner (with_table w table schema false false) q none)
+    declared_there table schema messages.Done at q none = with_table_there table schema true at q none
+    declared_there table schema messages.FailedBefore at q none = with_table_there table schema false at q none
+    declared_there table schema messages.FailedAfter at q none = with_table_there table schema false at q none
 
     fresh_all : (tables : List ℕ) (some : List (ℕ × TableDisk)) → AreFresh g some → AreFresh g (open_all w some tables)
     fresh_all [] some f = f
@@ -931,7 +927,7 @@ module _ (client_law : ClientLaws) (client_grows : ClientGrows) (lapsed_grows : 
     goes_on_sound node = answered_sound w s k (events.Start node) facts.Done (λ lines a. a) tt (record { form = tt; counts = refl; is = tt }) (record { form = tt; counts = refl; is = tt })
 
     started_sound : (shape : Shape) (lucks : List Luck) (node : Node) → StepSound s w (events.Start node) (started w shape lucks node)
-    started_sound shape lucks (nodes.Store number) = go (is_down w (nodes.Store number))
+    started_sound shape lucks (nodes.Store number) = go (has_store w number && is_down w (nodes.Store number))
       where
         go : (down : Bool) → StepSound s w (events.Start (nodes.Store number)) (if down then answering facts.Done (store_starts number lucks w) else answered w facts.Done)
         go true =
@@ -964,7 +960,7 @@ module _ (client_law : ClientLaws) (client_grows : ClientGrows) (lapsed_grows : 
     IsFirst other = Unit {0}
 
     pub step_sound : IsUp w → (event : Event) (lucks : Lucks) → IsFirst event → StepSound s w event (step w event lucks)
-    step_sound up (events.Store number) lucks first = record { turn = refl; lines = tt; kept = k; there = λ q none. none }
+    step_sound up (events.Store number) lucks first = let m = store_sound g w s number (length w.packets) k in record { turn = refl; lines = m.lines; kept = m.kept; there = m.there }
     step_sound up (events.Table table schema) lucks first = declare_sound table schema (first_luck lucks.calls) first (hosted_at w table) refl
     step_sound up (events.Client c gate tables) lucks first = join_sound c gate tables (first_luck lucks.calls) (client_at w c) refl
     step_sound up (events.Write c table row x) lucks first = write_sound c table row x lucks.shape lucks.calls
@@ -1014,14 +1010,14 @@ module _ (client_law : ClientLaws) (client_grows : ClientGrows) (lapsed_grows : 
   first_is w s k other es f = tt
 
   -- a table that is declared is there
-  with_new_there : (w : World) (number : ℕ) (schema : Schema) (made up : Bool) (table : ℕ) → table ≡ number → hosted_at (with_table w number schema made up) table ≡ None → ⊥
-  with_new_there w number schema made up table same none = ⊎_elim (λ e. absurd (let p = sym e.1 ∙ none in cc)) (λ e. e.0 same)
-      (look_cases w.tables number (record { store = record { disk = record { items = []; pending = None; left = [] }; agenda = agenda_of up }; history = []; made = made }) table)
+  with_new_there : (w : World) (number : ℕ) (schema : Schema) (made : Bool) (table : ℕ) → table ≡ number → hosted_at (with_table w number schema made) table ≡ None → ⊥
+  with_new_there w number schema made table same none = ⊎_elim (λ e. absurd (let p = sym e.1 ∙ none in cc)) (λ e. e.0 same)
+      (look_cases w.tables number (record { store = record { disk = record { items = []; pending = None; left = [] }; agenda = agenda_of made }; history = []; made = made }) table)
 
   new_there : (w : World) (number : ℕ) (schema : Schema) (luck : Luck) (table : ℕ) → table ≡ number → hosted_at (made_with w number schema luck) table ≡ None → ⊥
-  new_there w number schema messages.Done table same none = with_new_there w number schema true (not (is_down w the_store)) table same none
-  new_there w number schema messages.FailedBefore table same none = with_new_there w number schema false false table same (store_falls_there owner (with_table w number schema false false) table none)
-  new_there w number schema messages.FailedAfter table same none = with_new_there w number schema false false table same (store_falls_there owner (with_table w number schema false false) table none)
+  new_there w number schema messages.Done table same none = with_new_there w number schema true table same none
+  new_there w number schema messages.FailedBefore table same none = with_new_there w number schema false table same none
+  new_there w number schema messages.FailedAfter table same none = with_new_there w number schema false table same none
 
   pub scheme_on : (w : World) (event : Event) (lucks : Lucks) (es : List Event) (table : ℕ) → hosted_at (step w event lucks).world table ≡ None
       → scheme_for (event ∷ es) table ≡ scheme_for es table

@@ -1,6 +1,7 @@
 -- What a table tells and sends keeps the world.
 use Rattle.std.proofs.Common.{◌≡◌, ◌≢◌, ℕ, Bool, false, List, [], ◌∷◌, Option, Some, None, sym, ap, ◌∙◌, subst, ⊎_elim}
 use Rattle.stab_base.specs.declared.node.Node.{Node}
+use Rattle.stab_base.specs.declared.node.Node.TheVariants as nodes
 use Rattle.row_value.specs.declared.schema.Schema.{Schema}
 use Rattle.row_value.specs.declared.schema.Scheme.{Scheme}
 use Rattle.row_value.specs.declared.schema.Scheme.TheVariants.{Strong}
@@ -21,7 +22,7 @@ use Rattle.store_laws.specs.Part as store
 use Rattle.client_laws.specs.Part.{Items, Sending, IsRefused}
 use Rattle.client_laws.specs.Part as part
 use Rattle.world_tables.specs.Again.{may_repeat}
-use Rattle.world_tables.specs.World.{World, Packet, Hosted, Outbox, the_store, hosted_at, schema_at, after_table, packets_from, address, goes_on, history_on}
+use Rattle.world_tables.specs.World.{World, Packet, Hosted, Outbox, hosted_at, schema_at, owner_of, after_table, packets_from, address, goes_on, history_on}
 use Rattle.world_laws.proofs.Kept.{KnownIn, IsFairMessage, IsFairPacket, nothing_there, Kept, MoveSound}
 use Rattle.world_laws.proofs.Lines.{out_hear, out_said}
 use Rattle.world_laws.proofs.Changes.{stands}
@@ -139,23 +140,25 @@ module _ (client_grows : ClientGrows) (lapsed_grows : LapsedGrows) (g : ℕ → 
       torn_here c q None same f = tt
       torn_here c q (Some hd) same f = subst (λ (xs : List Stored). store.IsTornHeader c xs (Some hd)) (sym here ∙ ap items (sym same)) f
 
-      way_here : (c : ℕ) (to : Option Node) → IsWayBy c to → IsWayTo c (address to)
-      way_here c None f = absurd f
-      way_here c (Some node) f = f
+      way_here : (c : ℕ) (to : Option Node) (m : Message) → IsWayBy c to → IsWayTo c (address (owner_of w) to m)
+      way_here c None m f = absurd f
+      way_here c (Some node) m f = f
 
       answers_here : (sends : List Send) → Answers (g table) table (KnownIn s.heard k.sent table) law.later sends
-          → (p : Packet) → Among (packets_from the_store sends) p → IsFairPacket g s'.heard items k.sent p
+          → (p : Packet) → Among (packets_from (owner_of w) (nodes.Store (owner_of w table)) sends) p → IsFairPacket g s'.heard items k.sent p
       answers_here [] f p a = absurd (among_none p a)
       answers_here (send ∷ more) f p a = ⊎_elim (λ e. subst (λ (x : Packet). IsFairPacket g s'.heard items k.sent x) e (first send.message f.0)) (λ b. answers_here more f.1 p b)
-          (among_cons (record { from = the_store; to = address send.to; message = send.message }) (packets_from the_store more) p a)
+          (among_cons (record { from = nodes.Store (owner_of w table); to = address (owner_of w) send.to send.message; message = send.message })
+          (packets_from (owner_of w) (nodes.Store (owner_of w table)) more) p a)
         where
-          first : (m : Message) → IsAnswer (g table) table (KnownIn s.heard k.sent table) law.later send.to m → IsFairMessage g s'.heard items k.sent the_store (address send.to) m
+          first : (m : Message) → IsAnswer (g table) table (KnownIn s.heard k.sent table) law.later send.to m
+              → IsFairMessage g s'.heard items k.sent (nodes.Store (owner_of w table)) (address (owner_of w) send.to m) m
           first (SyncRequest q) x = absurd x
           first (PullRequest q) x = absurd x
-          first (SyncResponse r) x = (way_here r.client send.to x.1, outcome_here r r.outcome x.0 x.2)
-          first (PullResponse q) x = (way_here q.client send.to x.1, header_here q q.header x.0 x.2)
+          first (SyncResponse r) x = (way_here r.client send.to (SyncResponse r) x.1, outcome_here r r.outcome x.0 x.2)
+          first (PullResponse q) x = (way_here q.client send.to (PullResponse q) x.1, header_here q q.header x.0 x.2)
           first (TornRowRequest q) x = absurd x
-          first (TornRowResponse q) x = (way_here q.client send.to x.1, torn_here q.client q.table q.header x.0 x.2)
+          first (TornRowResponse q) x = (way_here q.client send.to (TornRowResponse q) x.1, torn_here q.client q.table q.header x.0 x.2)
 
       table_kept : Kept g (after_table w table hosted step).world s'
       table_kept = record {
@@ -172,12 +175,12 @@ module _ (client_grows : ClientGrows) (lapsed_grows : LapsedGrows) (g : ℕ → 
         no_store = no_store;
         clients = at.clients;
         no_client = λ c none. let f = k.no_client c none in (ap (λ (m : ℕ → Heard). m c) heard ∙ f.0, f.1);
-        packets = λ p a. ⊎_elim (λ b. at.packets p b) (λ b. answers_here step.sends law.sends p b) (among_either w.packets (packets_from the_store step.sends) p a);
+        packets = λ p a. ⊎_elim (λ b. at.packets p b) (λ b. answers_here step.sends law.sends p b) (among_either w.packets (packets_from (owner_of w) (nodes.Store (owner_of w table)) step.sends) p a);
       }
 
     pub table_moves : (number : ℕ) → MoveSound g s w number (after_table w table hosted step)
     table_moves number =
-        let out : Outbox = record { facts = step.facts; packets = packets_from the_store step.sends } in
+        let out : Outbox = record { facts = step.facts; packets = packets_from (owner_of w) (nodes.Store (owner_of w table)) step.sends } in
         let old : hosted.history ≡ s.history table = there.2 ∙ (k.stores table there.0 there.1).1 in
         record {
           lines = out_said g s number out [] result.are tt;

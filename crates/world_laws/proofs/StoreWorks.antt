@@ -1,5 +1,5 @@
 -- A Store's work, falls, crashes and starts keep the world: they are moves of its tables, one after the other.
-use Rattle.std.proofs.Common.{◌≡◌, ℕ, zero, suc, ◌+◌, Bool, true, false, List, [], ◌∷◌, ◌++◌, length, Option, Some, None, refl, sym, ap, ◌∙◌, ⊎_elim}
+use Rattle.std.proofs.Common.{◌≡◌, ℕ, zero, suc, ◌+◌, Bool, true, false, List, [], ◌∷◌, ◌++◌, length, Option, Some, None, refl, ap, ◌∙◌}
 use Rattle.std.specs.Prelude.{drop, map, if◌then◌else◌}
 use Rattle.stab_base.specs.declared.node.Node.TheVariants as nodes
 use Rattle.row_value.specs.declared.schema.Scheme.{Scheme}
@@ -9,12 +9,12 @@ use Rattle.step_tables.specs.Messages as messages
 use Rattle.step_tables.specs.Sayings.{Said}
 use Rattle.step_tables.specs.StoreMoves as store
 use Rattle.step_tables.specs.StoreMoves.{StoreDisk, StoreTask, StoreMove}
-use Rattle.world_tables.specs.World.{World, Packet, Hosted, Outbox, Moved, the_store, hosted_at, tables_of, has_node, without_node, still, and_then, lines_from, sent_lines, packets_from, history_on, table_step, move_hosted, move_table, first_luck, other_lucks}
+use Rattle.world_tables.specs.World.{World, Packet, Hosted, Outbox, Moved, owner_of, hosted_at, tables_of, has_node, without_node, still, and_then, lines_from, sent_lines, packets_from}
+use Rattle.world_tables.specs.World.{move_hosted, move_table, first_luck, other_lucks}
 use Rattle.world_tables.specs.World.{table_falls, tables_fall, with_down, without_down, store_falls, or_falls, is_at_work, busy_table, write_next, store_works, tasks_of, store_until_idle, store_follows, table_follows}
 use Rattle.world_tables.specs.World.{start_hosted, table_starts, tables_start, store_starts, crash_luck, table_crashes, store_crashes}
 use Rattle.world_laws.proofs.Kept.{Kept, MoveSound}
 use Rattle.world_laws.proofs.Lines.{sent_by}
-use Rattle.world_laws.proofs.Looks.{look_cases}
 use Rattle.world_laws.proofs.Orders.{still_sound, nodes_kept, nodes_sound, both_sound, unless_sound, failing_sound}
 
 -- a write or a crash: a table that isn't made stays so under it
@@ -57,7 +57,7 @@ crash_silent luck table w = go (hosted_at w table)
 
     go : (o : Option Hosted) → AreSilent (move_hosted w table (store.Crash luck) o).outs
     go None = tt
-    go (Some hosted) = let q = quiet hosted.store.disk hosted.store.agenda luck in (q.0, ap (packets_from the_store) q.1, tt)
+    go (Some hosted) = let q = quiet hosted.store.disk hosted.store.agenda luck in (q.0, ap (packets_from (owner_of w) (nodes.Store (owner_of w table))) q.1, tt)
 
 falls_silent : (tables : List ℕ) (w : World) → AreSilent (tables_fall tables w).outs
 falls_silent [] w = tt
@@ -76,25 +76,6 @@ crashes_silent node calls lucks w =
     one : (luck : Luck) (o : Option ℕ) → AreSilent (table_crashes luck o w).outs
     one luck None = tt
     one luck (Some table) = crash_silent luck table w
-
--- ---- a table that falls is still there
-
-fall_there : (w : World) (table q : ℕ) → hosted_at (table_falls table w).world q ≡ None → hosted_at w q ≡ None
-fall_there w table q = go (hosted_at w table)
-  where
-    go : (o : Option Hosted) → hosted_at (move_hosted w table (store.Crash messages.FailedBefore) o).world q ≡ None → hosted_at w q ≡ None
-    go None none = none
-    go (Some hosted) none =
-        let s = table_step w table hosted (store.Crash messages.FailedBefore) in
-        let new : Hosted = record { store = s.store; history = history_on hosted.history s.facts; made = hosted.made } in
-        ⊎_elim (λ e. absurd (let both : Some new ≡ None = sym e.1 ∙ none in cc)) (λ e. sym e.1 ∙ none) (look_cases w.tables table new q)
-
-falls_there : (tables : List ℕ) (w : World) (q : ℕ) → hosted_at (tables_fall tables w).world q ≡ None → hosted_at w q ≡ None
-falls_there [] w q none = none
-falls_there (table ∷ tables) w q none = fall_there w table q (falls_there tables (table_falls table w).world q none)
-
-pub store_falls_there : (node : ℕ) (w : World) (q : ℕ) → hosted_at (store_falls node w).world q ≡ None → hosted_at w q ≡ None
-store_falls_there node w q none = falls_there (tables_of w node) w q none
 
 -- ---- a Store's moves
 
@@ -141,8 +122,8 @@ module _ (g : ℕ → Scheme) (table_work : TableWorks g) where
   pub table_follows_sound : (table : ℕ) (lucks : List Luck) (w : World) (s : Said) (number : ℕ) → Kept g w s → MoveSound g s w number (table_follows table lucks w)
   table_follows_sound table lucks w s number k = go (is_at_work w table)
     where
-      go : (busy : Bool) → MoveSound g s w number (if busy then store_follows 1 lucks w else still w)
-      go true = follows_sound 1 lucks w s number k
+      go : (busy : Bool) → MoveSound g s w number (if busy then store_follows (owner_of w table) lucks w else still w)
+      go true = follows_sound (owner_of w table) lucks w s number k
       go false = still_sound g w s number k
 
   crash_sound : (luck : Luck) (o : Option ℕ) (w : World) (s : Said) (number : ℕ) → Kept g w s → MoveSound g s w number (table_crashes luck o w)
@@ -174,17 +155,17 @@ module _ (g : ℕ → Scheme) (table_work : TableWorks g) where
         tables = tables_of w node
 
         m : Moved
-        m = tables_start tables lucks w
+        m = and_then (tables_fall tables w) (tables_start tables lucks)
 
         started : MoveSound g s w number m
-        started = tables_sound tables lucks w s number k
+        started = both_sound g w s number (tables_fall tables w) (tables_start tables lucks) (falls_sound tables w s number k) (λ x now. tables_sound tables lucks _ x _ now)
 
         up : World → World
         up x = without_down (nodes.Store node) x
 
-        go : (failed : Bool) → MoveSound g s w number (if failed then and_then m (tables_fall tables)
+        go : (failed : Bool) → MoveSound g s w number (if failed then and_then m (store_falls node)
             else and_then m (λ x. store_follows node (drop (length tables) lucks) (up x)))
-        go true = both_sound g w s number m (tables_fall tables) started (λ x now. falls_sound tables m.world x _ now)
+        go true = both_sound g w s number m (store_falls node) started (λ x now. store_falls_sound node m.world x _ now)
         go false = both_sound g w s number m (λ x. store_follows node (drop (length tables) lucks) (up x)) started (λ x now. follows x now)
           where
             follows : (x : Said) → Kept g m.world x → MoveSound g x m.world (number + sent_by g m.outs) (store_follows node (drop (length tables) lucks) (up m.world))

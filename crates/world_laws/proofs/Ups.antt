@@ -1,12 +1,7 @@
--- Where the Store isn't down, each of its tables is up.
+-- Where a Store isn't down, each of its tables is up.
 use Rattle.std.proofs.Common.{◌≡◌, ◌≢◌, ◌⊎◌, inl, inr, ℕ, zero, suc, Bool, true, false, List, [], ◌∷◌, length, Option, Some, None, refl, sym, ap, ◌∙◌, subst, arith, ⊎_elim, true≢false}
-use Rattle.std.specs.Prelude.{◌+◌, ◌==◌, ◌&&◌, ◌||◌, not, nat_lt, drop, slice_get, if◌then◌else◌}
-use Rattle.std.specs.List.{find}
+use Rattle.std.specs.Prelude.{◌+◌, ◌==◌, ◌&&◌, ◌||◌, nat_lt, drop, slice_get, if◌then◌else◌}
 use Rattle.std.proofs.lemmas.Bool.Decides.{nat_tests}
-use Rattle.std.specs.Ordering.{nat_cmp}
-use Rattle.std.specs.Cmp.{unsigned_tied}
-use Rattle.std.specs.Map.{lookup, keys_of}
-use Rattle.std.specs.BTreeMap.{is_at}
 use Rattle.stab_base.specs.declared.node.Node.{Node}
 use Rattle.stab_base.specs.declared.node.Node.TheVariants as nodes
 use Rattle.row_value.specs.declared.schema.Schema.{Schema}
@@ -27,13 +22,13 @@ use Rattle.step_tables.specs.StoreMoves as store
 use Rattle.step_tables.specs.StoreMoves.{StoreDisk, StoreTask, StoreMove, StoreStep}
 use Rattle.step_tables.specs.ClientMoves as client
 use Rattle.step_tables.specs.ClientMoves.{Client, ClientTask, ClientMove, Shape, no_shape}
-use Rattle.step_tables.proofs.Lists.{among_none, among_cons, among_here, among_next}
+use Rattle.step_tables.proofs.Lists.{among_none, among_cons}
 use Rattle.world_tables.specs.World.{client_until_idle, client_writes, starts_by, client_starts, client_falls, Lucks, with_link, linked, call, listed, resolve_by, resolve_each}
-use Rattle.world_tables.specs.World.{resolve_all, chosen_of, client_pairs, first_shape, other_shapes, plan_size}
-use Rattle.world_tables.specs.World.{World, Packet, Hosted, Moved, WorldStep, start, schema_at, hosted_at, client_at, scheme_in, chunk_in, owner, the_store, tables_of, same_node, has_node}
-use Rattle.world_tables.specs.World.{without_node, is_down, still, and_then, and_unless, is_fault}
-use Rattle.world_tables.specs.World.{history_on, after_table, table_step, move_hosted, move_table, move_there, move_client, first_luck, other_lucks, client_works, client_tasks, client_follows}
-use Rattle.world_tables.specs.World.{tables_fall, with_down, without_down, store_falls, or_falls, is_at_work, busy_table, write_next, store_works, tasks_of, store_until_idle, store_follows}
+use Rattle.world_tables.specs.World.{resolve_all, chosen_of, client_pairs, first_shape, other_shapes, plan_size, has_store, hosted_by, joining, owner_by, owner_of, with_store}
+use Rattle.world_tables.specs.World.{World, Packet, Hosted, Moved, WorldStep, start, schema_at, hosted_at, client_at, scheme_in, chunk_in, tables_of, has_node}
+use Rattle.world_tables.specs.World.{is_down, still, and_then, and_unless, is_fault}
+use Rattle.world_tables.specs.World.{history_on, after_table, table_step, move_hosted, move_table, move_client, first_luck, other_lucks, client_tasks, client_follows}
+use Rattle.world_tables.specs.World.{tables_fall, without_down, store_falls, is_at_work, busy_table, write_next, store_works, tasks_of, store_until_idle, store_follows}
 use Rattle.world_tables.specs.World.{table_follows}
 use Rattle.world_tables.specs.World.{declared_late, start_hosted, table_starts, tables_start, store_starts, crash_luck, table_crashes, store_crashes}
 use Rattle.world_tables.specs.World.{answering, answered, refused, unless_down, agenda_of, with_table, declared, joined, gets_tasks}
@@ -41,18 +36,25 @@ use Rattle.world_tables.specs.World.{call_there, take_read, take_at, to_hosted, 
 use Rattle.world_tables.specs.World.{started, step}
 use Rattle.world_laws.proofs.Looks.{look_cases}
 use Rattle.world_laws.proofs.Calls.{call_is}
+use Rattle.world_laws.proofs.Owners.{IsBeside, owners_stay, beside_same, beside_then, up_beside, move_beside, store_falls_beside, begins_beside, busy_owned}
+use Rattle.world_laws.proofs.Owners.{IsSameStores, client_stores, client_works_stores, client_follows_stores, client_writes_stores, same_or_other, joined_owner, among_tables, up_store, owner_made}
 
 abbrev pub IsUpAt : Option (List StoreTask) → Type 0
 IsUpAt o = (agenda : List StoreTask) × (o ≡ Some agenda)
 
-abbrev pub AllUp : World → Type 0
-AllUp w = (table : ℕ) (hosted : Hosted) → hosted_at w table ≡ Some hosted → IsUpAt hosted.store.agenda
-
+-- where neither a crash nor a disk has taken its owner down, a table that is made is up
 abbrev pub IsUp : World → Type 0
-IsUp w = is_down w the_store ≡ false → AllUp w
+IsUp w = (table : ℕ) (hosted : Hosted) → hosted_at w table ≡ Some hosted → hosted.made ≡ true → has_node w.downs (nodes.Store (owner_of w table)) ≡ false → IsUpAt hosted.store.agenda
+
+-- a table whose owner isn't down is made, and is up
+pub up_there : (w : World) → IsUp w → (table : ℕ) (hosted : Hosted) → hosted_at w table ≡ Some hosted → is_down w (nodes.Store (owner_of w table)) ≡ false
+    → (hosted.made ≡ true) × IsUpAt hosted.store.agenda
+up_there w up table hosted at is =
+    let made : hosted.made ≡ true = owner_made w table hosted at is in
+    (made, up table hosted at made (up_store w (owner_of w table) is).1)
 
 pub start_up : IsUp start
-start_up up table hosted at = absurd cc
+start_up table hosted at made is = absurd cc
 
 -- ---- a table's moves
 
@@ -106,51 +108,41 @@ module _ (x : Scheme) (size table : ℕ) (d : StoreDisk) where
   worked_at (Some agenda) up luck fine = worked_up agenda luck fine
 
   -- a table that is started is up
-  started_at : (o : Option (List StoreTask)) → IsUpAt (store.started owner table d o).store.agenda
-  started_at (Some agenda) = (agenda, refl)
-  started_at None = recover d.pending
+  started_at : (node : ℕ) (o : Option (List StoreTask)) → IsUpAt (store.started node table d o).store.agenda
+  started_at node (Some agenda) = (agenda, refl)
+  started_at node None = recover d.pending
     where
-      found : (pending : items.Stored) (i : Option items.Stored) → IsUpAt (store.recovered owner table d pending i).store.agenda
+      found : (pending : items.Stored) (i : Option items.Stored) → IsUpAt (store.recovered node table d pending i).store.agenda
       found pending None = (_, refl)
       found pending (Some i) = (_, refl)
 
-      recover : (o : Option items.Stored) → IsUpAt (store.recover owner table d o).store.agenda
+      recover : (o : Option items.Stored) → IsUpAt (store.recover node table d o).store.agenda
       recover None = (_, refl)
       recover (Some pending) = found pending (store.item_at pending.entry.version d.items)
 
 -- behind a step of a table
-after_up : (w : World) (table : ℕ) (hosted : Hosted) (s : StoreStep) → IsUpAt s.store.agenda → (q : ℕ) (found : Hosted) → hosted_at (after_table w table hosted s).world q ≡ Some found
-    → IsUpAt found.store.agenda ⊎ ((q ≢ table) × (hosted_at w q ≡ Some found))
+after_up : (w : World) (table : ℕ) (hosted : Hosted) (s : StoreStep) → (hosted.made ≡ true → has_node w.downs (nodes.Store (owner_of w table)) ≡ false → IsUpAt s.store.agenda)
+    → (q : ℕ) (found : Hosted) → hosted_at (after_table w table hosted s).world q ≡ Some found
+    → (found.made ≡ true → has_node w.downs (nodes.Store (owner_of w q)) ≡ false → IsUpAt found.store.agenda) ⊎ ((q ≢ table) × (hosted_at w q ≡ Some found))
 after_up w table hosted s up q found at = ⊎_elim
-    (λ e. let both : Some new ≡ Some found = sym e.1 ∙ at in let same : new ≡ found = cc in inl (subst (λ (y : Hosted). IsUpAt y.store.agenda) same up))
+    (λ e.
+    let both : Some new ≡ Some found = sym e.1 ∙ at in
+    let same : new ≡ found = cc in
+    inl (subst (λ (y : Hosted). y.made ≡ true → has_node w.downs (nodes.Store (owner_of w q)) ≡ false → IsUpAt y.store.agenda) same
+    (λ made is. up made (ap (λ (n : ℕ). has_node w.downs (nodes.Store (owner_of w n))) (sym e.0) ∙ is))))
     (λ e. inr (e.0, sym e.1 ∙ at)) (look_cases w.tables table new q)
   where
     new : Hosted
     new = record { store = s.store; history = history_on hosted.history s.facts; made = hosted.made }
 
--- the moves of tables and clients change nothing of what is down
-move_downs : (w : World) (table : ℕ) (move : StoreMove) → (move_table table move w).world.downs ≡ w.downs
-move_downs w table move = go (hosted_at w table)
-  where
-    go : (o : Option Hosted) → (move_hosted w table move o).world.downs ≡ w.downs
-    go None = refl
-    go (Some hosted) = refl
-
-falls_downs : (tables : List ℕ) (w : World) → (tables_fall tables w).world.downs ≡ w.downs
-falls_downs [] w = refl
-falls_downs (table ∷ tables) w = falls_downs tables (move_table table (store.Crash messages.FailedBefore) w).world ∙ move_downs w table (store.Crash messages.FailedBefore)
-
 move_up : (w : World) (table : ℕ) (move : StoreMove)
     → ((hosted : Hosted) → hosted_at w table ≡ Some hosted → IsUpAt hosted.store.agenda → IsUpAt (table_step w table hosted move).store.agenda) → IsUp w → IsUp (move_table table move w).world
-move_up w table move f up is = go (hosted_at w table) refl
+move_up w table move f up = go (hosted_at w table) refl
   where
-    all : AllUp w
-    all = up (ap (λ (downs : List Node). has_node downs the_store) (sym (move_downs w table move)) ∙ is)
-
-    go : (o : Option Hosted) → hosted_at w table ≡ o → AllUp (move_hosted w table move o).world
-    go None at = all
-    go (Some hosted) at = λ q found there. ⊎_elim (λ e. e) (λ e. all q found e.1)
-        (after_up w table hosted (table_step w table hosted move) (f hosted at (all table hosted at)) q found there)
+    go : (o : Option Hosted) → hosted_at w table ≡ o → IsUp (move_hosted w table move o).world
+    go None at = up
+    go (Some hosted) at = λ q found there made is. ⊎_elim (λ e. e made is) (λ e. up q found e.1 made is)
+        (after_up w table hosted (table_step w table hosted move) (λ m i. f hosted at (up table hosted at m i)) q found there)
 
 take_up : (w : World) (table : ℕ) (from : Node) (m : Message) → IsUp w → IsUp (move_table table (store.Take from m) w).world
 take_up w table from m up = move_up w table (store.Take from m)
@@ -163,9 +155,28 @@ work_up w table luck fine up = move_up w table (store.Work luck)
 
 -- ---- a Store's work
 
--- the Store that has fallen is down
-fallen_up : (w : World) → IsUp (store_falls owner w).world
-fallen_up w is = absurd cc
+-- behind moves of a Store the tables of the others are up where they were, and its own are known
+beside_up : (node : ℕ) (w v : World) → IsBeside node w v → IsUp w
+    → ((q : ℕ) (hosted : Hosted) → hosted_at v q ≡ Some hosted → owner_of v q ≡ node → hosted.made ≡ true → has_node v.downs (nodes.Store node) ≡ false → IsUpAt hosted.store.agenda) → IsUp v
+beside_up node w v b up own q hosted at made is = ⊎_elim
+    (λ e. own q hosted at e made (ap (λ (n : ℕ). has_node v.downs (nodes.Store n)) (sym e) ∙ is))
+    (λ apart.
+    let same : owner_of v q ≡ owner_of w q = owners_stay node w v b q in
+    up q hosted (sym (b.others q (λ e. apart (same ∙ e))) ∙ at) made
+    (ap (λ (n : ℕ). has_node w.downs (nodes.Store n)) (sym same) ∙ (sym (b.downs (owner_of v q) apart) ∙ is)))
+    (same_or_other (owner_of v q) node)
+
+-- a Store that has fallen is down
+fallen_up : (node : ℕ) (w v : World) → IsBeside node w v → IsUp w → IsUp (store_falls node v).world
+fallen_up node w v b up = beside_up node w (store_falls node v).world (beside_then node w v (store_falls node v).world b (store_falls_beside node v)) up
+    (λ q hosted at own made is. absurd (grind (arith, nat_tests, is)))
+
+store_fallen_up : (node : ℕ) (w : World) → IsUp w → IsUp (store_falls node w).world
+store_fallen_up node w up = fallen_up node w w (beside_same node w) up
+
+either_false : (a b : Bool) → (a || b) ≡ false → (a ≡ false) × (b ≡ false)
+either_false true b e = absurd cc
+either_false false b e = (refl, e)
 
 unless_up : (m : Moved) (f : World → Moved) → IsUp m.world → (m.failed ≡ false → IsUp (f m.world).world) → IsUp (and_unless m f).world
 unless_up m f a b = go m.failed refl
@@ -174,30 +185,22 @@ unless_up m f a b = go m.failed refl
     go true is = a
     go false is = b is
 
-or_falls_up : (m : Moved) → (m.failed ≡ false → IsUp m.world) → IsUp (or_falls owner m).world
-or_falls_up m a = go m.failed refl
-  where
-    go : (failed : Bool) → m.failed ≡ failed → IsUp (if failed then and_then m (store_falls owner) else m).world
-    go true is = fallen_up m.world
-    go false is = a is
-
-write_up : (luck : Luck) (o : Option ℕ) (w : World) → IsUp w → IsUp (write_next owner luck o w).world
-write_up luck None w up = up
-write_up luck (Some table) w up = or_falls_up (move_table table (store.Work luck) w) (λ fine. work_up w table luck fine up)
-
--- another Store has no tables
-owner_or_none : (w : World) (node : ℕ) → (node ≡ owner) ⊎ ((node == owner ≡ false) × (tables_of w node ≡ []))
-owner_or_none w node = go (node == owner) refl
-  where
-    go : (b : Bool) → (node == owner) ≡ b → (node ≡ owner) ⊎ ((node == owner ≡ false) × (tables_of w node ≡ []))
-    go true is = inl (grind (arith, nat_tests, is))
-    go false is = inr (is, ap (λ (b : Bool). if b then keys_of w.tables else []) is)
-
 next_up : (node : ℕ) (luck : Luck) (w : World) → IsUp w → IsUp (write_next node luck (busy_table w node) w).world
-next_up node luck w up = ⊎_elim
-    (λ same. subst (λ (n : ℕ). IsUp (write_next n luck (busy_table w n) w).world) (sym same) (write_up luck (busy_table w owner) w up))
-    (λ e. subst (λ (tables : List ℕ). IsUp (write_next node luck (find (is_at_work w) tables) w).world) (sym e.1) up)
-    (owner_or_none w node)
+next_up node luck w up = go (busy_table w node) refl
+  where
+    go : (o : Option ℕ) → busy_table w node ≡ o → IsUp (write_next node luck o w).world
+    go None is = up
+    go (Some table) is = by_fault m.failed refl
+      where
+        m : Moved
+        m = move_table table (store.Work luck) w
+
+        beside : IsBeside node w m.world
+        beside = subst (λ (n : ℕ). IsBeside n w m.world) (busy_owned node w table is) (move_beside w table (store.Work luck))
+
+        by_fault : (failed : Bool) → m.failed ≡ failed → IsUp (if failed then and_then m (store_falls node) else m).world
+        by_fault true bad = fallen_up node w m.world beside up
+        by_fault false fine = work_up w table luck fine up
 
 works_up : (node count : ℕ) (lucks : List Luck) (w : World) → IsUp w → IsUp (store_works node count lucks w).world
 works_up node zero lucks w up = up
@@ -216,197 +219,137 @@ follows_up node lucks w up = go (has_node w.holds (nodes.Store node))
 table_follows_up : (table : ℕ) (lucks : List Luck) (w : World) → IsUp w → IsUp (table_follows table lucks w).world
 table_follows_up table lucks w up = go (is_at_work w table)
   where
-    go : (busy : Bool) → IsUp (if busy then store_follows owner lucks w else still w).world
-    go true = follows_up owner lucks w up
+    go : (busy : Bool) → IsUp (if busy then store_follows (owner_of w table) lucks w else still w).world
+    go true = follows_up (owner_of w table) lucks w up
     go false = up
 
 -- ---- crashes and starts
 
--- another Store that is down
-other_down : (node : ℕ) (downs : List Node) → node == owner ≡ false → has_node (nodes.Store node ∷ downs) the_store ≡ has_node downs the_store
-other_down node downs is = ap (λ (b : Bool). b || has_node downs the_store) (turned (owner == node) refl)
-  where
-    turned : (b : Bool) → (owner == node) ≡ b → b ≡ false
-    turned true e = absurd (grind (arith, nat_tests, is, e))
-    turned false e = refl
-
 crash_up : (node calls : ℕ) (lucks : List Luck) (w : World) → IsUp w → IsUp (store_crashes node calls lucks w).world
-crash_up node calls lucks w up = ⊎_elim here (λ e. elsewhere e.0 e.1) (owner_or_none w node)
+crash_up node calls lucks w up = go (busy_table w node) refl
   where
     luck : Luck
     luck = crash_luck calls (other_lucks lucks) (first_luck lucks)
 
-    here : node ≡ owner → IsUp (store_crashes node calls lucks w).world
-    here same = subst (λ (n : ℕ). IsUp (store_crashes n calls lucks w).world) (sym same) (fallen_up (table_crashes luck (busy_table w owner) w).world)
+    go : (o : Option ℕ) → busy_table w node ≡ o → IsUp (and_then (table_crashes luck o w) (store_falls node)).world
+    go None is = store_fallen_up node w up
+    go (Some table) is = fallen_up node w (move_table table (store.Crash luck) w).world
+        (subst (λ (n : ℕ). IsBeside n w (move_table table (store.Crash luck) w).world) (busy_owned node w table is) (move_beside w table (store.Crash luck))) up
 
-    other : node == owner ≡ false → IsUp (record w { downs = nodes.Store node ∷ w.downs })
-    other apart is = up (sym (other_down node w.downs apart) ∙ is)
+module _ (P : ℕ → Type 0) where
+  -- each table of these is among those to be started
+  abbrev AreAll : World → List ℕ → Type 0
+  AreAll w tables = (q : ℕ) (hosted : Hosted) → hosted_at w q ≡ Some hosted → P q → Among tables q
 
-    falls : (tables : List ℕ) → tables ≡ [] → IsUp (record w { downs = nodes.Store node ∷ w.downs }) → IsUp (and_then (tables_fall tables w) (λ x. still (with_down (nodes.Store node) x))).world
-    falls tables none then_up = subst (λ (ts : List ℕ). IsUp (and_then (tables_fall ts w) (λ x. still (with_down (nodes.Store node) x))).world) (sym none) then_up
+  move_all : (w : World) (table : ℕ) (move : StoreMove) (tables : List ℕ) → AreAll w tables → AreAll (move_table table move w).world tables
+  move_all w table move tables all = go (hosted_at w table) refl
+    where
+      go : (o : Option Hosted) → hosted_at w table ≡ o → AreAll (move_hosted w table move o).world tables
+      go None at = all
+      go (Some hosted) at = λ q found there p. ⊎_elim (λ e. all q hosted (ap (hosted_at w) e.0 ∙ at) p) (λ e. all q found (sym e.1 ∙ there) p)
+          (look_cases w.tables table (new (table_step w table hosted move)) q)
+        where
+          new : StoreStep → Hosted
+          new s = record { store = s.store; history = history_on hosted.history s.facts; made = hosted.made }
 
-    elsewhere : node == owner ≡ false → tables_of w node ≡ [] → IsUp (store_crashes node calls lucks w).world
-    elsewhere apart none = subst (λ (ts : List ℕ). IsUp (and_then (table_crashes luck (find (is_at_work w) ts) w) (store_falls node)).world) (sym none)
-        (falls (tables_of w node) none (other apart))
+  falls_all : (some : List ℕ) (w : World) (tables : List ℕ) → AreAll w tables → AreAll (tables_fall some w).world tables
+  falls_all [] w tables all = all
+  falls_all (table ∷ some) w tables all = falls_all some (move_table table (store.Crash messages.FailedBefore) w).world tables (move_all w table (store.Crash messages.FailedBefore) tables all)
 
--- what a lookup finds is among the keys
-pub lookup_among : {V : Type 0} (es : List (ℕ × V)) (q : ℕ) (v : V) → lookup (is_at (nat_cmp q)) es ≡ Some v → Among (keys_of es) q
-lookup_among [] q v at = absurd cc
-lookup_among (e ∷ es) q v at = go (λ there. lookup_among es q v there) (is_at (nat_cmp q) e.0) refl
-  where
-    go : (lookup (is_at (nat_cmp q)) es ≡ Some v → Among (keys_of es) q) → (b : Bool) → is_at (nat_cmp q) e.0 ≡ b → Among (keys_of (e ∷ es)) q
-    go rest true is = let same : q ≡ e.0 = grind (arith, nat_tests, unsigned_tied q e.0, is) in subst (λ (n : ℕ). Among (keys_of (e ∷ es)) n) (sym same) (among_here e.0 (keys_of es))
-    go rest false is = among_next e.0 (keys_of es) q (rest (sym (ap (λ (b : Bool). if b then Some e.1 else lookup (is_at (nat_cmp q)) es) is) ∙ at))
+  -- each of them is up, or is still to be started
+  abbrev Awaits : World → List ℕ → Type 0
+  Awaits w tables = (q : ℕ) (hosted : Hosted) → hosted_at w q ≡ Some hosted → P q → IsUpAt hosted.store.agenda ⊎ Among tables q
 
--- each table is up, or is still to be started
-abbrev Awaits : World → List ℕ → Type 0
-Awaits w tables = (q : ℕ) (hosted : Hosted) → hosted_at w q ≡ Some hosted → IsUpAt hosted.store.agenda ⊎ Among tables q
+  start_awaits : (w : World) (table : ℕ) (tables : List ℕ) → Awaits w (table ∷ tables) → Awaits (start_hosted w table (hosted_at w table)).world tables
+  start_awaits w table tables a = go (hosted_at w table) refl
+    where
+      later : (q : ℕ) (hosted : Hosted) → (q ≢ table) → hosted_at w q ≡ Some hosted → P q → IsUpAt hosted.store.agenda ⊎ Among tables q
+      later q hosted apart at p = ⊎_elim (λ up. inl up) (λ b. ⊎_elim (λ e. absurd (apart (sym e))) (λ d. inr d) (among_cons table tables q b)) (a q hosted at p)
 
-start_awaits : (w : World) (table : ℕ) (tables : List ℕ) → Awaits w (table ∷ tables) → Awaits (start_hosted w table (hosted_at w table)).world tables
-start_awaits w table tables a = go (hosted_at w table) refl
-  where
-    later : (q : ℕ) (hosted : Hosted) → (q ≢ table) → hosted_at w q ≡ Some hosted → IsUpAt hosted.store.agenda ⊎ Among tables q
-    later q hosted apart at = ⊎_elim (λ up. inl up) (λ b. ⊎_elim (λ e. absurd (apart (sym e))) (λ d. inr d) (among_cons table tables q b)) (a q hosted at)
+      behind : (hosted : Hosted) (s : StoreStep) → IsUpAt s.store.agenda → Awaits (after_table w table hosted s).world tables
+      behind hosted s up q found at p = ⊎_elim
+          (λ e. let both : Some new ≡ Some found = sym e.1 ∙ at in let same : new ≡ found = cc in inl (subst (λ (y : Hosted). IsUpAt y.store.agenda) same up))
+          (λ e. later q found e.0 (sym e.1 ∙ at) p) (look_cases w.tables table new q)
+        where
+          new : Hosted
+          new = record { store = s.store; history = history_on hosted.history s.facts; made = hosted.made }
 
-    behind : (hosted : Hosted) (s : StoreStep) → IsUpAt s.store.agenda → Awaits (after_table w table hosted s).world tables
-    behind hosted s up q found at = ⊎_elim (λ e. inl e) (λ e. later q found e.0 e.1) (after_up w table hosted s up q found at)
+      go : (o : Option Hosted) → hosted_at w table ≡ o → Awaits (start_hosted w table o).world tables
+      go None is = λ q hosted at p. ⊎_elim (λ up. inl up)
+          (λ b. ⊎_elim (λ e. absurd (let both : None ≡ Some hosted = sym is ∙ (ap (hosted_at w) e ∙ at) in cc)) (λ d. inr d) (among_cons table tables q b)) (a q hosted at p)
+      go (Some hosted) is = made hosted.made
+        where
+          started : Awaits (move_hosted w table store.Start (Some hosted)).world tables
+          started = behind hosted (table_step w table hosted store.Start)
+              (started_at (scheme_in (schema_at w table)) (chunk_in (schema_at w table)) table hosted.store.disk (owner_of w table) hosted.store.agenda)
 
-    go : (o : Option Hosted) → hosted_at w table ≡ o → Awaits (start_hosted w table o).world tables
-    go None is = λ q hosted at. ⊎_elim (λ up. inl up)
-        (λ b. ⊎_elim (λ e. absurd (let both : None ≡ Some hosted = sym is ∙ (ap (hosted_at w) e ∙ at) in cc)) (λ d. inr d) (among_cons table tables q b)) (a q hosted at)
-    go (Some hosted) is = made hosted.made
-      where
-        started : Awaits (move_hosted w table store.Start (Some hosted)).world tables
-        started = behind hosted (table_step w table hosted store.Start)
-            (started_at (scheme_in (schema_at w table)) (chunk_in (schema_at w table)) table hosted.store.disk hosted.store.agenda)
+          made : (b : Bool) → Awaits (if b then move_table table store.Start w else after_table w table (record hosted { made = true }) (declared_late (owner_of w table) table)).world tables
+          made true = subst (λ (o : Option Hosted). Awaits (move_hosted w table store.Start o).world tables) (sym is) started
+          made false = behind (record hosted { made = true }) (declared_late (owner_of w table) table) ([], refl)
 
-        made : (b : Bool) → Awaits (if b then move_table table store.Start w else after_table w table (record hosted { made = true }) (declared_late table)).world tables
-        made true = subst (λ (o : Option Hosted). Awaits (move_hosted w table store.Start o).world tables) (sym is) started
-        made false = behind (record hosted { made = true }) (declared_late table) ([], refl)
+  tables_up : (tables : List ℕ) (lucks : List Luck) (w : World) → Awaits w tables → (tables_start tables lucks w).failed ≡ false
+      → (q : ℕ) (hosted : Hosted) → hosted_at (tables_start tables lucks w).world q ≡ Some hosted → P q → IsUpAt hosted.store.agenda
+  tables_up [] lucks w a fine = λ q hosted at p. ⊎_elim (λ up. up) (λ b. absurd (among_none q b)) (a q hosted at p)
+  tables_up (table ∷ tables) lucks w a fine = go (λ v b safe. tables_up tables (other_lucks lucks) v b safe) (first_luck lucks) fine
+    where
+      rest : Moved → Moved
+      rest m = and_unless m (tables_start tables (other_lucks lucks))
 
-tables_up : (tables : List ℕ) (lucks : List Luck) (w : World) → Awaits w tables → (tables_start tables lucks w).failed ≡ false → AllUp (tables_start tables lucks w).world
-tables_up [] lucks w a fine = λ q hosted at. ⊎_elim (λ up. up) (λ b. absurd (among_none q b)) (a q hosted at)
-tables_up (table ∷ tables) lucks w a fine = go (λ v b safe. tables_up tables (other_lucks lucks) v b safe) (first_luck lucks) fine
-  where
-    rest : Moved → Moved
-    rest m = and_unless m (tables_start tables (other_lucks lucks))
+      AllUp : World → Type 0
+      AllUp v = (q : ℕ) (hosted : Hosted) → hosted_at v q ≡ Some hosted → P q → IsUpAt hosted.store.agenda
 
-    go : ((v : World) → Awaits v tables → (tables_start tables (other_lucks lucks) v).failed ≡ false → AllUp (tables_start tables (other_lucks lucks) v).world)
-        → (luck : Luck) → (rest (table_starts table luck w)).failed ≡ false → AllUp (rest (table_starts table luck w)).world
-    go on_from messages.FailedBefore safe = absurd cc
-    go on_from messages.FailedAfter safe = absurd cc
-    go on_from messages.Done safe = on (start_hosted w table (hosted_at w table)).failed refl safe
-      where
-        m : Moved
-        m = start_hosted w table (hosted_at w table)
+      go : ((v : World) → Awaits v tables → (tables_start tables (other_lucks lucks) v).failed ≡ false → AllUp (tables_start tables (other_lucks lucks) v).world)
+          → (luck : Luck) → (rest (table_starts table luck w)).failed ≡ false → AllUp (rest (table_starts table luck w)).world
+      go on_from messages.FailedBefore safe = absurd cc
+      go on_from messages.FailedAfter safe = absurd cc
+      go on_from messages.Done safe = on (start_hosted w table (hosted_at w table)).failed refl safe
+        where
+          m : Moved
+          m = start_hosted w table (hosted_at w table)
 
-        on : (b : Bool) → m.failed ≡ b → (if b then m else and_then m (tables_start tables (other_lucks lucks))).failed ≡ false
-            → AllUp (if b then m else and_then m (tables_start tables (other_lucks lucks))).world
-        on true is safe_here = absurd (true≢false (sym is ∙ safe_here))
-        on false is safe_here = on_from m.world (start_awaits w table tables a)
-            (sym (ap (λ (b : Bool). b || (tables_start tables (other_lucks lucks) m.world).failed) is) ∙ safe_here)
+          on : (b : Bool) → m.failed ≡ b → (if b then m else and_then m (tables_start tables (other_lucks lucks))).failed ≡ false
+              → AllUp (if b then m else and_then m (tables_start tables (other_lucks lucks))).world
+          on true is safe_here = absurd (true≢false (sym is ∙ safe_here))
+          on false is safe_here = on_from m.world (start_awaits w table tables a)
+              (sym (ap (λ (b : Bool). b || (tables_start tables (other_lucks lucks) m.world).failed) is) ∙ safe_here)
 
-starts_downs : (tables : List ℕ) (lucks : List Luck) (w : World) → (tables_start tables lucks w).world.downs ≡ w.downs
-starts_downs [] lucks w = refl
-starts_downs (table ∷ tables) lucks w = go (starts_downs tables (other_lucks lucks) (start_hosted w table (hosted_at w table)).world) (first_luck lucks)
-  where
-    hosted : (o : Option Hosted) → hosted_at w table ≡ o → (start_hosted w table o).world.downs ≡ w.downs
-    hosted None is = refl
-    hosted (Some x) is = made x.made
-      where
-        made : (b : Bool) → (if b then move_table table store.Start w else after_table w table (record x { made = true }) (declared_late table)).world.downs ≡ w.downs
-        made true = move_downs w table store.Start
-        made false = refl
-
-    go : (tables_start tables (other_lucks lucks) (start_hosted w table (hosted_at w table)).world).world.downs ≡ (start_hosted w table (hosted_at w table)).world.downs
-        → (luck : Luck) → (and_unless (table_starts table luck w) (tables_start tables (other_lucks lucks))).world.downs ≡ w.downs
-    go rest messages.FailedBefore = refl
-    go rest messages.FailedAfter = refl
-    go rest messages.Done = on (start_hosted w table (hosted_at w table)).failed
-      where
-        m : Moved
-        m = start_hosted w table (hosted_at w table)
-
-        on : (b : Bool) → (if b then m else and_then m (tables_start tables (other_lucks lucks))).world.downs ≡ w.downs
-        on true = hosted (hosted_at w table) refl
-        on false = rest ∙ hosted (hosted_at w table) refl
-
-without_other : (node : ℕ) (downs : List Node) → node == owner ≡ false → has_node (without_node downs (nodes.Store node)) the_store ≡ has_node downs the_store
-without_other node [] apart = refl
-without_other node (first ∷ downs) apart = go (without_other node downs apart) (same_node (nodes.Store node) first) refl
-  where
-    differs : (other : Node) → same_node (nodes.Store node) other ≡ true → same_node the_store other ≡ false
-    differs (nodes.Store n) is = grind (arith, nat_tests, is, apart)
-    differs (nodes.Client c) is = absurd cc
-    differs (nodes.Gate gate) is = absurd cc
-
-    go : has_node (without_node downs (nodes.Store node)) the_store ≡ has_node downs the_store
-        → (b : Bool) → same_node (nodes.Store node) first ≡ b → has_node (if not b then first ∷ without_node downs (nodes.Store node) else without_node downs (nodes.Store node)) the_store
-        ≡ has_node (first ∷ downs) the_store
-    go rest true is = rest ∙ ap (λ (b : Bool). b || has_node downs the_store) (sym (differs first is))
-    go rest false is = ap (λ (b : Bool). same_node the_store first || b) rest
-
-starts_up : (node : ℕ) (lucks : List Luck) (w : World) → is_down w (nodes.Store node) ≡ true → IsUp w → IsUp (store_starts node lucks w).world
-starts_up node lucks w down up = go m.failed refl
+starts_up : (node : ℕ) (lucks : List Luck) (w : World) → has_store w node ≡ true → IsUp w → IsUp (store_starts node lucks w).world
+starts_up node lucks w has up = go m.failed refl
   where
     tables : List ℕ
     tables = tables_of w node
 
+    fallen : World
+    fallen = (tables_fall tables w).world
+
     m : Moved
-    m = tables_start tables lucks w
+    m = and_then (tables_fall tables w) (tables_start tables lucks)
 
-    -- where the Store is still down
-    failed : node ≡ owner → IsUp (tables_fall tables m.world).world
-    failed same is = absurd (true≢false (sym down ∙ (ap (λ (n : ℕ). is_down w (nodes.Store n)) same
-        ∙ (ap (λ (downs : List Node). has_node downs the_store) (sym (falls_downs tables m.world ∙ starts_downs tables lucks w)) ∙ is))))
+    beside : IsBeside node w m.world
+    beside = begins_beside node lucks w
 
-    awaits : node ≡ owner → Awaits w tables
-    awaits same = subst (λ (n : ℕ). Awaits w (tables_of w n)) (sym same) (λ q hosted at. inr (lookup_among w.tables q hosted at))
+    Own : ℕ → Type 0
+    Own q = owner_of w q ≡ node
 
-    none_failed : tables ≡ [] → m ≡ still w
-    none_failed none = ap (λ (ts : List ℕ). tables_start ts lucks w) none
+    started : (tables_start tables lucks fallen).failed ≡ false → (q : ℕ) (hosted : Hosted) → hosted_at m.world q ≡ Some hosted → Own q → IsUpAt hosted.store.agenda
+    started fine = tables_up Own tables lucks fallen (λ q hosted at own. inr (falls_all Own tables w tables (λ t x there mine. among_tables w node t x has mine there) q hosted at own)) fine
 
     go : (b : Bool) → m.failed ≡ b
-        → IsUp (if b then and_then m (tables_fall tables) else and_then m (λ x. store_follows node (drop (length tables) lucks) (without_down (nodes.Store node) x))).world
-    go true is = ⊎_elim failed (λ e. absurd (let none = ap (λ (x : Moved). x.failed) (none_failed e.1) in true≢false (sym is ∙ none))) (owner_or_none w node)
-    go false is = follows_up node (drop (length tables) lucks) (without_down (nodes.Store node) m.world) (⊎_elim
-        (λ same is_down_not. tables_up tables lucks w (awaits same) is)
-        (λ e is_down_not. subst (λ (x : Moved). AllUp x.world) (sym (none_failed e.1))
-        (up (sym (without_other node w.downs e.0) ∙ (ap (λ (x : Moved). has_node (without_node x.world.downs (nodes.Store node)) the_store) (sym (none_failed e.1)) ∙ is_down_not))))
-        (owner_or_none w node))
+        → IsUp (if b then and_then m (store_falls node) else and_then m (λ x. store_follows node (drop (length tables) lucks) (without_down (nodes.Store node) x))).world
+    go true is = fallen_up node w m.world beside up
+    go false is =
+        let v : World = without_down (nodes.Store node) m.world in
+        follows_up node (drop (length tables) lucks) v (beside_up node w v (beside_then node w m.world v beside (up_beside node m.world)) up
+        (λ q hosted at own made up_now. started (either_false (tables_fall tables w).failed (tables_start tables lucks fallen).failed is).1
+        q hosted at (sym (owners_stay node w m.world beside q) ∙ own)))
 
 -- ---- clients
 
-abbrev IsStoreSame : World → World → Type 0
-IsStoreSame w v = (v.tables ≡ w.tables) × (v.downs ≡ w.downs)
-
-same_up : (w v : World) → IsStoreSame w v → IsUp w → IsUp v
-same_up w v e up is = subst (λ (ts : List (ℕ × Hosted)). (table : ℕ) (hosted : Hosted) → lookup (is_at (nat_cmp table)) ts ≡ Some hosted → IsUpAt hosted.store.agenda) (sym e.0)
-    (up (ap (λ (downs : List Node). has_node downs the_store) (sym e.1) ∙ is))
-
-client_same : (w : World) (c : ℕ) (move : ClientMove) (shape : Shape) → IsStoreSame w (move_client c move shape w).world
-client_same w c move shape = go (client_at w c)
-  where
-    go : (o : Option Client) → IsStoreSame w (move_there w c move shape o).world
-    go None = (refl, refl)
-    go (Some node) = (refl, refl)
-
-client_works_up : (c : ℕ) (tasks : List ClientTask) (lucks : List Luck) (w : World) → IsUp w → IsUp (client_works c tasks lucks w).world
-client_works_up c [] lucks w up = up
-client_works_up c (task ∷ tasks) lucks w up =
-    client_works_up c tasks (other_lucks lucks) (move_client c (client.Work (first_luck lucks)) no_shape w).world
-    (same_up w (move_client c (client.Work (first_luck lucks)) no_shape w).world (client_same w c (client.Work (first_luck lucks)) no_shape) up)
-
-client_follows_up : (c : ℕ) (lucks : List Luck) (w : World) → IsUp w → IsUp (client_follows c lucks w).world
-client_follows_up c lucks w up = go (has_node w.holds (nodes.Client c))
-  where
-    go : (held : Bool) → IsUp (if held then still w else client_until_idle c lucks w).world
-    go true = up
-    go false = client_works_up c (client_tasks (client_at w c)) lucks w up
-
-client_writes_up : (c : ℕ) (luck : Luck) (tasks : List ClientTask) (w : World) → IsUp w → IsUp (client_writes c luck tasks w).world
-client_writes_up c luck [] w up = up
-client_writes_up c luck (task ∷ tasks) w up = same_up w (move_client c (client.Work luck) no_shape w).world (client_same w c (client.Work luck) no_shape) up
+same_up : (w v : World) → IsSameStores w v → IsUp w → IsUp v
+same_up w v e up = subst (λ (stores : List ℕ). IsUp (record v { stores = stores })) (sym e.stores)
+    (subst (λ (some : List (ℕ × Schema)). IsUp (record v { stores = w.stores; schemas = some })) (sym e.schemas)
+    (subst (λ (some : List (ℕ × Hosted)). IsUp (record v { stores = w.stores; schemas = w.schemas; tables = some })) (sym e.tables)
+    (subst (λ (downs : List Node). IsUp (record v { stores = w.stores; schemas = w.schemas; tables = w.tables; downs = downs })) (sym e.downs) up)))
 
 -- ---- events
 
@@ -421,14 +364,16 @@ call_up : (w : World) (c : ℕ) (move : ClientMove) (shape : Shape) (lucks : Lis
     → IsUp (call_there w c move shape lucks o).world
 call_up w c move shape lucks up o at =
     call_is (λ (x : WorldStep). IsUp x.world) w c move shape lucks (λ r before. up)
-    (same_up w (client_falls c w).world (client_same w c (client.Crash messages.FailedBefore) no_shape) up)
+    (same_up w (client_falls c w).world (client_stores w c (client.Crash messages.FailedBefore) no_shape) up)
     (λ node is. follows (gets_tasks node.agenda (move_client c move shape w).world c)) o at
   where
     first : IsUp (move_client c move shape w).world
-    first = same_up w (move_client c move shape w).world (client_same w c move shape) up
+    first = same_up w (move_client c move shape w).world (client_stores w c move shape) up
 
     follows : (b : Bool) → IsUp (if b then client_follows c (other_lucks lucks) (move_client c move shape w).world else still (move_client c move shape w).world).world
-    follows true = client_follows_up c (other_lucks lucks) (move_client c move shape w).world first
+    follows true =
+        let v : World = (move_client c move shape w).world in
+        same_up v (client_follows c (other_lucks lucks) v).world (client_follows_stores c (other_lucks lucks) v) first
     follows false = first
 
 -- a client's event
@@ -458,9 +403,9 @@ client_unless_up m f a b = unless_up m f a (λ is. b a)
 resolve_by_up : (c table : ℕ) (by : Stored) (shape : Shape) (pair : RowPair) (luck : Luck) (w : World) → IsUp w → IsUp (resolve_by c table by shape pair luck w).world
 resolve_by_up c table by shape pair messages.Done w up =
     let move : ClientMove = client.Resolve table pair.row pair.version (chosen_of by pair.row (client_at w c) table) in
-    same_up w (move_client c move shape w).world (client_same w c move shape) up
-resolve_by_up c table by shape pair messages.FailedBefore w up = same_up w (client_falls c w).world (client_same w c (client.Crash messages.FailedBefore) no_shape) up
-resolve_by_up c table by shape pair messages.FailedAfter w up = same_up w (client_falls c w).world (client_same w c (client.Crash messages.FailedBefore) no_shape) up
+    same_up w (move_client c move shape w).world (client_stores w c move shape) up
+resolve_by_up c table by shape pair messages.FailedBefore w up = same_up w (client_falls c w).world (client_stores w c (client.Crash messages.FailedBefore) no_shape) up
+resolve_by_up c table by shape pair messages.FailedAfter w up = same_up w (client_falls c w).world (client_stores w c (client.Crash messages.FailedBefore) no_shape) up
 
 resolve_each_up : (c table : ℕ) (by : Stored) (shapes : List Shape) (lucks : List Luck) (pairs : List RowPair) (w : World) → IsUp w
     → IsUp (resolve_each c table by shapes lucks pairs w).world
@@ -470,7 +415,7 @@ resolve_each_up c table by shapes lucks (pair ∷ pairs) w up =
     let more : List Luck = drop (1 + plan_size c first.world) lucks in
     client_unless_up (and_unless first (client_until_idle c (other_lucks lucks))) (resolve_each c table by (other_shapes shapes) more pairs)
     (client_unless_up first (client_until_idle c (other_lucks lucks)) (resolve_by_up c table by (first_shape shapes) pair (first_luck lucks) w up)
-    (λ there. client_works_up c (client_tasks (client_at first.world c)) (other_lucks lucks) first.world there))
+    (λ there. same_up first.world (client_until_idle c (other_lucks lucks) first.world).world (client_works_stores c (client_tasks (client_at first.world c)) (other_lucks lucks) first.world) there))
     (λ there. resolve_each_up c table by (other_shapes shapes) more pairs (and_unless first (client_until_idle c (other_lucks lucks))).world there)
 
 resolve_all_up : (w : World) (c table : ℕ) (by : Stored) (shapes : List Shape) (lucks : List Luck) → IsUp w → (s : WorldStep) → IsUp s.world
@@ -497,8 +442,8 @@ hosted_up w table from m lucks up (Some hosted) = go hosted.store.agenda
     first = take_up w table from m up
 
     reads : (luck : Luck) → IsUp (take_read w table hosted (store.Take from m) (other_lucks lucks) luck).world
-    reads messages.FailedBefore = fallen_up w
-    reads messages.FailedAfter = fallen_up w
+    reads messages.FailedBefore = store_fallen_up (owner_of w table) w up
+    reads messages.FailedAfter = store_fallen_up (owner_of w table) w up
     reads messages.Done = table_follows_up table (other_lucks lucks) (move_table table (store.Take from m) w).world first
 
     go : (o : Option (List StoreTask)) → IsUp (take_at w table hosted (store.Take from m) lucks o).world
@@ -507,7 +452,7 @@ hosted_up w table from m lucks up (Some hosted) = go hosted.store.agenda
     go (Some []) = reads (first_luck lucks)
 
 carried_up : (w : World) (p : Packet) (shape : Shape) (lucks : List Luck) → IsUp w → (to : Node) → IsUp (carried w p shape lucks to).world
-carried_up w p shape lucks up (nodes.Store number) = unless_down_up w (nodes.Store number) _ up (hosted_up w (table_of p.message) p.from p.message lucks up (hosted_at w (table_of p.message)))
+carried_up w p shape lucks up (nodes.Store number) = unless_down_up w (nodes.Store number) _ up (hosted_up w (table_of p.message) p.from p.message lucks up (hosted_by w number (table_of p.message)))
 carried_up w p shape lucks up (nodes.Gate gate) = up
 carried_up w p shape lucks up (nodes.Client c) = go (client_at w c) refl
   where
@@ -519,14 +464,14 @@ delivered_up : (w : World) (shape : Shape) (lucks : List Luck) → IsUp w → (o
 delivered_up w shape lucks up None = up
 delivered_up w shape lucks up (Some p) = carried_up w p shape lucks up p.to
 
-shows_up : (w : World) (row : List ℕ) (lucks : List Luck) → IsUp w → (o : Option Hosted) → IsUp (store_shows w row lucks o).world
-shows_up w row lucks up None = up
-shows_up w row lucks up (Some hosted) = unless_down_up w the_store _ up (read (first_luck lucks))
+shows_up : (w : World) (table : ℕ) (row : List ℕ) (lucks : List Luck) → IsUp w → (o : Option Hosted) → IsUp (store_shows w table row lucks o).world
+shows_up w table row lucks up None = up
+shows_up w table row lucks up (Some hosted) = unless_down_up w (nodes.Store (owner_of w table)) _ up (read (first_luck lucks))
   where
-    read : (luck : Luck) → IsUp (row_read w hosted row luck).world
+    read : (luck : Luck) → IsUp (row_read w table hosted row luck).world
     read messages.Done = up
-    read messages.FailedBefore = fallen_up w
-    read messages.FailedAfter = fallen_up w
+    read messages.FailedBefore = store_fallen_up (owner_of w table) w up
+    read messages.FailedAfter = store_fallen_up (owner_of w table) w up
 
 history_up : (w : World) (table : ℕ) → IsUp w → (o : Option Hosted) → IsUp (history_lines w table o).world
 history_up w table up None = up
@@ -534,19 +479,49 @@ history_up w table up (Some hosted) = up
 
 chunks_up : (w : World) (table : ℕ) → IsUp w → (o : Option Hosted) → IsUp (chunk_names w table o).world
 chunks_up w table up None = up
-chunks_up w table up (Some hosted) = unless_down_up w the_store _ up up
+chunks_up w table up (Some hosted) = unless_down_up w (nodes.Store (owner_of w table)) _ up up
 
--- a new table is up where its Store is
-declared_up : (w : World) (table : ℕ) (schema : Schema) (luck : Luck) → IsUp w → (o : Option Hosted) → IsUp (declared w table schema luck o)
-declared_up w table schema luck up (Some hosted) = up
-declared_up w table schema messages.FailedBefore up None = fallen_up (with_table w table schema false false)
-declared_up w table schema messages.FailedAfter up None = fallen_up (with_table w table schema false false)
-declared_up w table schema messages.Done up None = λ is q found at. ⊎_elim
-    (λ e. let both : Some new ≡ Some found = sym e.1 ∙ at in let same : new ≡ found = cc in subst (λ (y : Hosted). IsUpAt y.store.agenda) same ([], ap (λ (b : Bool). agenda_of (not b)) is))
-    (λ e. up is q found (sym e.1 ∙ at)) (look_cases w.tables table new q)
+-- a new table that is made is up
+with_table_up : (w : World) (table : ℕ) (schema : Schema) (made : Bool) → IsUp w → hosted_at w table ≡ None → IsUp (with_table w table schema made)
+with_table_up w table schema made up none q found at is_made is = ⊎_elim
+    (λ e.
+    let both : Some new ≡ Some found = sym e.1 ∙ at in
+    let same : new ≡ found = cc in
+    subst (λ (y : Hosted). IsUpAt y.store.agenda) same ([], ap agenda_of (ap (λ (y : Hosted). y.made) same ∙ is_made)))
+    (λ e. up q found (sym e.1 ∙ at) is_made (ap (λ (o : Option Schema). has_node w.downs (nodes.Store (owner_by w.stores o))) (sym (schema_stays q e.0)) ∙ is))
+    (look_cases w.tables table new q)
   where
     new : Hosted
-    new = record { store = record { disk = record { items = []; pending = None; left = [] }; agenda = agenda_of (not (is_down w the_store)) }; history = []; made = true }
+    new = record { store = record { disk = record { items = []; pending = None; left = [] }; agenda = agenda_of made }; history = []; made = made }
+
+    schema_stays : (other : ℕ) → other ≢ table → schema_at (with_table w table schema made) other ≡ schema_at w other
+    schema_stays other apart = ⊎_elim (λ e. absurd (apart e.0)) (λ e. e.1) (look_cases w.schemas table schema other)
+
+declared_up : (w : World) (table : ℕ) (schema : Schema) (luck : Luck) → IsUp w → (o : Option Hosted) → hosted_at w table ≡ o → IsUp (declared w table schema luck o)
+declared_up w table schema luck up (Some hosted) at = up
+declared_up w table schema messages.Done up None at = with_table_up w table schema true up at
+declared_up w table schema messages.FailedBefore up None at = with_table_up w table schema false up at
+declared_up w table schema messages.FailedAfter up None at = with_table_up w table schema false up at
+
+-- a Store that joins takes tables only where it isn't down, and then no Store is
+with_store_up : (number : ℕ) (w : World) → IsUp w → IsUp (with_store number w)
+with_store_up number w up q found at made is = go w.downs refl (joined_owner number w.stores (schema_at w q))
+  where
+    new : ℕ
+    new = owner_of (with_store number w) q
+
+    go : (downs : List Node) → w.downs ≡ downs → (new ≡ number) ⊎ (new ≡ owner_of w q) → IsUpAt found.store.agenda
+    go [] none h = up q found at made (ap (λ (some : List Node). has_node some (nodes.Store (owner_of w q))) none)
+    go (first ∷ more) some (inl mine) = absurd (grind (arith, nat_tests, mine, down))
+      where
+        down : (new == number) ≡ false
+        down = let here : ((new == number) || has_node (first ∷ more) (nodes.Store new)) ≡ false = ap (λ (downs : List Node). has_node (joining number downs) (nodes.Store new)) (sym some) ∙ is in
+            (either_false (new == number) (has_node (first ∷ more) (nodes.Store new)) here).0
+    go (first ∷ more) some (inr kept) = up q found at made (ap (λ (n : ℕ). has_node w.downs (nodes.Store n)) (sym kept) ∙ (ap (λ (downs : List Node). has_node downs (nodes.Store new)) some ∙ apart))
+      where
+        apart : has_node (first ∷ more) (nodes.Store new) ≡ false
+        apart = let here : ((new == number) || has_node (first ∷ more) (nodes.Store new)) ≡ false = ap (λ (downs : List Node). has_node (joining number downs) (nodes.Store new)) (sym some) ∙ is in
+            (either_false (new == number) (has_node (first ∷ more) (nodes.Store new)) here).1
 
 joined_up : (w : World) (c : ℕ) (tables : List ℕ) (luck : Luck) → IsUp w → (o : Option Client) → IsUp (joined w c tables luck o)
 joined_up w c tables luck up None = up
@@ -562,31 +537,34 @@ linked_up w c link up (Some node) = unless_down_up w (nodes.Client c) _ up (move
 
 worked_node_up : (w : World) (lucks : List Luck) → IsUp w → (node : Node) → IsUp (worked w lucks node).world
 worked_node_up w lucks up (nodes.Store number) = next_up number (first_luck lucks) w up
-worked_node_up w lucks up (nodes.Client c) = client_writes_up c (first_luck lucks) (client_tasks (client_at w c)) w up
+worked_node_up w lucks up (nodes.Client c) =
+    let tasks : List ClientTask = client_tasks (client_at w c) in same_up w (client_writes c (first_luck lucks) tasks w).world (client_writes_stores c (first_luck lucks) tasks w) up
 worked_node_up w lucks up (nodes.Gate gate) = up
 
 all_worked_up : (w : World) (lucks : List Luck) → IsUp w → (node : Node) → IsUp (all_worked w lucks node).world
 all_worked_up w lucks up (nodes.Store number) = works_up number (length (tasks_of w number)) lucks w up
-all_worked_up w lucks up (nodes.Client c) = client_works_up c (client_tasks (client_at w c)) lucks w up
+all_worked_up w lucks up (nodes.Client c) = same_up w (client_until_idle c lucks w).world (client_works_stores c (client_tasks (client_at w c)) lucks w) up
 all_worked_up w lucks up (nodes.Gate gate) = up
 
 crashed_up : (w : World) (calls : ℕ) (lucks : List Luck) → IsUp w → (node : Node) → IsUp (crashed w calls lucks node).world
 crashed_up w calls lucks up (nodes.Store number) = crash_up number calls lucks w up
 crashed_up w calls lucks up (nodes.Client c) =
-    let move : ClientMove = client.Crash (crash_luck calls (other_lucks lucks) (first_luck lucks)) in same_up w (move_client c move no_shape w).world (client_same w c move no_shape) up
+    let move : ClientMove = client.Crash (crash_luck calls (other_lucks lucks) (first_luck lucks)) in same_up w (move_client c move no_shape w).world (client_stores w c move no_shape) up
 crashed_up w calls lucks up (nodes.Gate gate) = up
 
 started_up : (w : World) (shape : Shape) (lucks : List Luck) → IsUp w → (node : Node) → IsUp (started w shape lucks node).world
-started_up w shape lucks up (nodes.Store number) = go (is_down w (nodes.Store number)) refl
+started_up w shape lucks up (nodes.Store number) = go (has_store w number) refl (is_down w (nodes.Store number))
   where
-    go : (b : Bool) → is_down w (nodes.Store number) ≡ b → IsUp (if b then answering facts.Done (store_starts number lucks w) else answered w facts.Done).world
-    go true is = starts_up number lucks w is up
-    go false is = up
+    go : (a : Bool) → has_store w number ≡ a → (b : Bool) → IsUp (if a && b then answering facts.Done (store_starts number lucks w) else answered w facts.Done).world
+    go true has true = starts_up number lucks w has up
+    go true has false = up
+    go false has b = up
 started_up w shape lucks up (nodes.Client c) = go (is_down w (nodes.Client c))
   where
     started_by : (luck : Luck) (more : List Luck) → IsUp (starts_by c shape luck more w).world
     started_by messages.Done more =
-        client_follows_up c more (move_client c client.Start shape w).world (same_up w (move_client c client.Start shape w).world (client_same w c client.Start shape) up)
+        let v : World = (move_client c client.Start shape w).world in
+        same_up v (client_follows c more v).world (client_follows_stores c more v) (same_up w (move_client c client.Start shape w).world (client_stores w c client.Start shape) up)
     started_by messages.FailedBefore more = up
     started_by messages.FailedAfter more = up
 
@@ -596,8 +574,8 @@ started_up w shape lucks up (nodes.Client c) = go (is_down w (nodes.Client c))
 started_up w shape lucks up (nodes.Gate gate) = up
 
 pub step_up : (w : World) (event : Event) (lucks : Lucks) → IsUp w → IsUp (step w event lucks).world
-step_up w (events.Store number) lucks up = up
-step_up w (events.Table table schema) lucks up = declared_up w table schema (first_luck lucks.calls) up (hosted_at w table)
+step_up w (events.Store number) lucks up = with_store_up number w up
+step_up w (events.Table table schema) lucks up = declared_up w table schema (first_luck lucks.calls) up (hosted_at w table) refl
 step_up w (events.Client c gate tables) lucks up = joined_up w c tables (first_luck lucks.calls) up (client_at w c)
 step_up w (events.Write c table row x) lucks up = event_up w c (client.Write table row x) lucks.shape lucks.calls up
 step_up w (events.Edit c table row x) lucks up = event_up w c (client.Change table row x) lucks.shape lucks.calls up
@@ -615,7 +593,7 @@ step_up w (events.ResolveAll c table by) lucks up =
     resolve_all_up w c table by lucks.shapes (other_lucks lucks.calls) up (call w c (client.ResolveAll table by) lucks.shape lucks.calls)
     (event_up w c (client.ResolveAll table by) lucks.shape lucks.calls up)
 step_up w (events.Deliver n) lucks up = delivered_up w lucks.shape lucks.calls up (slice_get w.packets n)
-step_up w (events.StoreShow table row) lucks up = shows_up w row lucks.calls up (hosted_at w table)
+step_up w (events.StoreShow table row) lucks up = shows_up w table row lucks.calls up (hosted_at w table)
 step_up w (events.History table) lucks up = history_up w table up (hosted_at w table)
 step_up w (events.Hold node) lucks up = unless_down_up w node _ up up
 step_up w (events.Free node) lucks up = unless_down_up w node _ up up

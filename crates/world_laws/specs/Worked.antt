@@ -20,10 +20,14 @@ use Rattle.step_tables.specs.Facts.{ClientFact, Fact, Shown, Line, AnswerLine, F
 use Rattle.step_tables.specs.Facts as facts
 use Rattle.step_tables.specs.Messages.{Luck}
 use Rattle.step_tables.specs.Messages as lucks
-use Rattle.world_tables.specs.World.{the_store, no_lucks}
+use Rattle.world_tables.specs.World.{no_lucks}
 use Rattle.step_tables.specs.Sayings.{Said, nothing_said, hear_lines}
 use Rattle.world_tables.specs.Turns.{Turn, Happening, transcript_of}
 use Rattle.world_tables.specs.Sound.{scheme_for}
+
+-- the one Store of these scripts
+abbrev pub the_store : Node
+the_store = nodes.Store 1
 
 -- a table of one number
 abbrev pub notes : Scheme → Schema

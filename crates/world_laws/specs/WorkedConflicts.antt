@@ -16,10 +16,9 @@ use Rattle.table_model.specs.declared.message_name.MessageName.TheVariants as na
 use Rattle.step_tables.specs.Facts.{ClientFact, Line, AnswerLine, PairLine, FactLine}
 use Rattle.step_tables.specs.Facts as facts
 use Rattle.step_tables.specs.Messages as lucks
-use Rattle.world_tables.specs.World.{the_store}
 use Rattle.world_tables.specs.Turns.{Turn, Happening}
 use Rattle.world_laws.specs.Worked.{notes, int, the_row, happens, turn, told, wrote_content, wrote, accepted, sent}
-use Rattle.world_laws.specs.Worked.{causal_conflict, causal_conflict_written}
+use Rattle.world_laws.specs.Worked.{the_store, causal_conflict, causal_conflict_written}
 use Rattle.world_laws.specs.WorkedCrashes.{done_so}
 
 abbrev pub refuses : facts.Refusal → List Line

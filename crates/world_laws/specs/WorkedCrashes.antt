@@ -14,10 +14,10 @@ use Rattle.step_tables.specs.Facts.{Line, AnswerLine, FactLine}
 use Rattle.step_tables.specs.Facts as facts
 use Rattle.step_tables.specs.Messages.{Luck}
 use Rattle.step_tables.specs.Messages as lucks
-use Rattle.world_tables.specs.World.{the_store, names_answer, no_lucks}
+use Rattle.world_tables.specs.World.{names_answer, no_lucks}
 use Rattle.world_tables.specs.Turns.{Turn, Happening}
 use Rattle.world_laws.specs.Worked.{notes, int, the_row, happens, turn, told, wrote_content, wrote, accepted, sent}
-use Rattle.world_laws.specs.Worked.{pictures, object}
+use Rattle.world_laws.specs.Worked.{the_store, pictures, object}
 
 abbrev pub done_so : List Luck → Event → Happening
 done_so lucks event = record { event = event; lucks = record no_lucks { calls = lucks } }

@@ -15,9 +15,9 @@ use Rattle.table_model.specs.declared.event.Event.TheVariants as events
 use Rattle.table_model.specs.declared.message_name.MessageName.TheVariants as names
 use Rattle.step_tables.specs.Facts.{Answer, AnswerLine}
 use Rattle.step_tables.specs.Facts as facts
-use Rattle.world_tables.specs.World.{the_store}
 use Rattle.world_tables.specs.Turns.{Turn, Happening}
-use Rattle.world_laws.specs.Worked.{notes, int, the_row, happens, turn, told, wrote_content, wrote, accepted, sent}
+use Rattle.world_laws.specs.Worked.{the_store, notes, int, the_row, happens, turn, told, wrote_content, wrote}
+use Rattle.world_laws.specs.Worked.{accepted, sent}
 
 -- ---- an update, a patch and a delete in turn
 

@@ -8,10 +8,10 @@ use Rattle.table_model.specs.declared.event.Event.TheVariants as events
 use Rattle.table_model.specs.declared.message_name.MessageName.TheVariants as names
 use Rattle.step_tables.specs.Facts.{AnswerLine}
 use Rattle.step_tables.specs.Facts as facts
-use Rattle.world_tables.specs.World.{the_store, names_answer}
+use Rattle.world_tables.specs.World.{names_answer}
 use Rattle.world_tables.specs.Turns.{Turn, Happening}
 use Rattle.world_laws.specs.Worked.{the_row, happens, turn, told, wrote_content, accepted, sent}
-use Rattle.world_laws.specs.Worked.{pictures, object, named}
+use Rattle.world_laws.specs.Worked.{the_store, pictures, object, named}
 
 -- so many bytes, all of them others
 abbrev pub another_object : ℕ → Content

@@ -7,9 +7,9 @@ use Rattle.table_model.specs.declared.event.Event.TheVariants as events
 use Rattle.table_model.specs.declared.message_name.MessageName.TheVariants as names
 use Rattle.step_tables.specs.Facts.{AnswerLine, FactLine}
 use Rattle.step_tables.specs.Facts as facts
-use Rattle.world_tables.specs.World.{the_store, no_lucks}
+use Rattle.world_tables.specs.World.{no_lucks}
 use Rattle.world_tables.specs.Turns.{Turn, Happening}
-use Rattle.world_laws.specs.Worked.{notes, int, the_row, happens, turn, told, wrote, accepted, sent}
+use Rattle.world_laws.specs.Worked.{the_store, notes, int, the_row, happens, turn, told, wrote, accepted, sent}
 
 -- a pull at which the client tells the row as torn, and asks for it whole
 abbrev pub asks_whole : Event → Happening

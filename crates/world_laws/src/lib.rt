@@ -69,17 +69,17 @@ pub fn the_fold_is_the_whole_list()
 {}
 
 /// Every run's transcript is sound, whatever is delivered, lost, repeated or overtaken, wherever a device call fails
-/// and takes its node down, and for tables of all three schemes. A run is a list of events: calls and edits, phases in
-/// which conflicts are listed and resolved, one by one or all at once, deliveries, questions, links that go down and
-/// up, holds and freeings of a node, its device writes one by one or all at once, crashes of a node inside any device
-/// write, undone or done, or beside any, and starts of a node that is down, also of one whose start failed or crashed,
-/// whichever writes of its own a client has in it beside those that change what its devices stand for. Each event has
-/// one answer in a form of its command, and a crash, a hold and a freeing tell nothing; the versions of each table's
-/// history are 1, 2, 3; the writes of each client are numbered 1, 2, 3, and each entry is one of them, accepted once,
-/// by the rule of its table's scheme; a write in a conflict or refused is never accepted; each `show` gives what the
-/// client's lines make it show, each `conflicts` the rows that it shows in a conflict, each once, and each `sshow` and
-/// `history` what was accepted; what a client has read never falls, and what its position covers it has read; and no
-/// write is lost from sight.
+/// and takes its node down, whichever Stores are declared, and for tables of all three schemes. A run is a list of
+/// events: calls and edits, phases in which conflicts are listed and resolved, one by one or all at once, deliveries,
+/// questions, links that go down and up, holds and freeings of a node, its device writes one by one or all at once,
+/// crashes of a node inside any device write, undone or done, or beside any, and starts of a node that is down, also of
+/// one whose start failed or crashed, whichever writes of its own a client has in it beside those that change what its
+/// devices stand for. Each event has one answer in a form of its command, and a crash, a hold and a freeing tell
+/// nothing; the versions of each table's history are 1, 2, 3; the writes of each client are numbered 1, 2, 3, and each
+/// entry is one of them, accepted once, by the rule of its table's scheme; a write in a conflict or refused is never
+/// accepted; each `show` gives what the client's lines make it show, each `conflicts` the rows that it shows in a
+/// conflict, each once, and each `sshow` and `history` what was accepted; what a client has read never falls, and what
+/// its position covers it has read; and no write is lost from sight.
 pub fn every_run_is_sound()
     ensures { (happenings : List Happening) → IsSound (turns happenings) }
 {}

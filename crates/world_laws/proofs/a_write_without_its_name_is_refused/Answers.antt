@@ -2,8 +2,8 @@ use Rattle.std.proofs.Common.{◌≡◌, subst}
 use Rattle.table_model.specs.declared.event.Event.TheVariants as events
 use Rattle.step_tables.specs.Facts.{Answer}
 use Rattle.step_tables.specs.Facts as facts
-use Rattle.world_tables.specs.World.{the_store}
 use Rattle.world_tables.specs.Sound.{IsForm}
+use Rattle.world_laws.specs.Worked.{the_store}
 use Rattle.world_laws.proofs.a_write_without_its_name_is_refused.Goals as goal
 
 pub returns : goal.returns

@@ -1,5 +1,5 @@
 -- The question whether a client may resolve all conflicts of a table, as the world has it.
-use Rattle.std.proofs.Common.{◌≡◌, ℕ, ◌+◌, ◌≤◌, ◌++◌, Bool, true, false, cond, List, [], ◌∷◌, Option, Some, None, Result, Ok, Err, refl, sym, ap, ◌∙◌, subst, append-nil}
+use Rattle.std.proofs.Common.{◌≡◌, ℕ, ◌≤◌, ◌++◌, Bool, true, false, cond, List, [], ◌∷◌, Option, Some, None, Result, Ok, Err, refl, sym, ap, ◌∙◌, subst, append-nil}
 use Rattle.std.specs.Prelude.{◌&&◌, if◌then◌else◌}
 use Rattle.std.specs.Ordering.{nat_cmp}
 use Rattle.std.specs.Cmp.{nat_cmp_total}
@@ -16,7 +16,7 @@ use Rattle.step_tables.specs.Messages.{Luck}
 use Rattle.step_tables.specs.Messages as messages
 use Rattle.step_tables.specs.ClientMoves.{TableDisk, ClientDisk, ClientTask, Client, ClientMove, ClientStep, Shape, ResolveAll, all_fitting, all_idle, all_in, can_resolve, client_step, if_closed, is_before_phase, is_cut_off, kept_out, phases_by, seen, table_at}
 use Rattle.step_tables.proofs.Lists.{lookup-insert}
-use Rattle.world_tables.specs.World.{World, WorldStep, Moved, client_at, first_luck, is_client_down, is_cut, packets_from, Outbox, is_resolving, move_client, moved_client, reads, refused, unless_cut, unless_kept}
+use Rattle.world_tables.specs.World.{World, WorldStep, Moved, owner_of, client_at, first_luck, is_client_down, is_cut, packets_from, Outbox, is_resolving, move_client, moved_client, reads, refused, unless_cut, unless_kept}
 use Rattle.world_laws.proofs.Working.{moved_is}
 use Rattle.journal_host.specs.declared.host.ClientHost.{ClientHost}
 use Rattle.journal_host.specs.Holds.{ClientThere, HoldsClients, outs_of, said}
@@ -197,15 +197,16 @@ module _ {D : Type 0} (state : D → DiskState) (w : World) (old mid : ClientHos
   }
 
   -- and nothing is told
-  pub outs_back : outs_of mid ≡ outs_of old
-  outs_back = k.outs ∙ (ap (λ (l : List Outbox). outs_of old ++ said l) (ap (λ (x : WorldStep). x.outs) q.is ∙ ap (λ (m : Moved). m.outs) (moved_is w c (ResolveAll table way) shape idle q.at))
-      ∙ (ap (λ (l : List Outbox). outs_of old ++ l) (silent (table_at (seen q.disk) table)) ∙ append-nil (outs_of old)))
+  pub outs_back : outs_of (owner_of w) mid ≡ outs_of (owner_of w) old
+  outs_back = subst (λ (owners : ℕ → ℕ). outs_of owners mid ≡ outs_of owners old ++ said s.outs) (ap owner_of behind) k.outs
+      ∙ (ap (λ (l : List Outbox). outs_of (owner_of w) old ++ said l) (ap (λ (x : WorldStep). x.outs) q.is ∙ ap (λ (m : Moved). m.outs) (moved_is w c (ResolveAll table way) shape idle q.at))
+      ∙ (ap (λ (l : List Outbox). outs_of (owner_of w) old ++ l) (silent (table_at (seen q.disk) table)) ∙ append-nil (outs_of (owner_of w) old)))
     where
-      silent : (o : Option TableDisk) → said (record { facts = (all_in shape q.disk [] way o).facts; packets = packets_from (nodes.Client c) (all_in shape q.disk [] way o).sends } ∷ []) ≡ []
+      silent : (o : Option TableDisk) → said (record { facts = (all_in shape q.disk [] way o).facts; packets = packets_from (owner_of w) (nodes.Client c) (all_in shape q.disk [] way o).sends } ∷ []) ≡ []
       silent None = refl
       silent (Some opened) = by (can_resolve opened.schema way)
         where
-          by : (fit : Result (Unit {0}) FitFault) → said (record { facts = (all_fitting shape q.disk [] opened fit).facts; packets = packets_from (nodes.Client c) (all_fitting shape q.disk [] opened fit).sends } ∷ []) ≡ []
+          by : (fit : Result (Unit {0}) FitFault) → said (record { facts = (all_fitting shape q.disk [] opened fit).facts; packets = packets_from (owner_of w) (nodes.Client c) (all_fitting shape q.disk [] opened fit).sends } ∷ []) ≡ []
           by (Ok fits) = refl
           by (Err fault) = refl
 

@@ -15,7 +15,7 @@ use Rattle.step_tables.specs.Lines.{answer_of}
 use Rattle.step_tables.specs.Messages.{Luck}
 use Rattle.step_tables.specs.ClientMoves.{Client, Shape, ResolveAll, seen}
 use Rattle.client_node.specs.declared.node.ClientNode.{ClientNode}
-use Rattle.world_tables.specs.World.{World, WorldStep, Moved, Outbox, and_then, and_unless, answering, call, client_at, client_pairs, client_until_idle, first_luck, is_fault, other_lucks, resolve_all, resolve_by, resolve_each, step}
+use Rattle.world_tables.specs.World.{World, WorldStep, Moved, Outbox, owner_of, and_then, and_unless, answering, call, client_at, client_pairs, client_until_idle, first_luck, is_fault, other_lucks, resolve_all, resolve_by, resolve_each, step}
 use Rattle.journal_host.specs.declared.fault.ClientFault.{ClientFault}
 use Rattle.journal_host.specs.declared.fault.ClientFault.TheVariants as fault
 use Rattle.journal_host.specs.declared.host.ClientHost.{ClientHost}
@@ -23,13 +23,15 @@ use Rattle.journal_host.specs.Calls.{IsCalled, Comes, HasCause, IsLast, IsNumber
 use Rattle.journal_host.specs.Holds.{HoldsClients, AreClients, HavePlansBelow, SameFaults, faults_at, outs_of, said}
 use Rattle.journal_host.specs.Steps.{IsDeviceFault}
 use Rattle.journal_host.specs.Moves.{alone_there, call_alone}
+use Rattle.journal_host.proofs.Lists.{outs_then}
+use Rattle.journal_host.proofs.Keeping.{until_idle_keeps, owners_kept}
 use Rattle.journal_host.proofs.Draining.{put_before}
 use Rattle.client_events.specs.Follow.{IsFollowed, Follows, HasWorkCause}
 use Rattle.client_events.specs.Resolves.{resolve_row, number_in, IsReady, HasResolved, ComesSo, IsLastWithin, IsNumberCauseWithin, IsCauseAbove}
 use Rattle.client_events.proofs.CallEvents.{looks_alone}
-use Rattle.client_events.proofs.Rows.{row_move, row_alone, row_answer, row_failed, row_ready, row_lucks, each_next}
+use Rattle.client_events.proofs.Rows.{row_move, row_alone, row_answer, row_failed, row_ready, row_lucks, each_next, row_keeps, each_keeps}
 use Rattle.client_events.proofs.Asked.{IsAsked, all_still, asked, held_back, outs_back, ready}
-use Rattle.client_events.proofs.Wholes.{said_both, fault_is}
+use Rattle.client_events.proofs.Wholes.{fault_is}
 
 -- ---- answers
 
@@ -97,8 +99,7 @@ module _ {D : Type 0} (state : D → DiskState) (w : World) (old mid : ClientHos
           subst (λ (x : Moved). HasResolved state old new x given) same (record {
             moved = record {
               held = f.1.moved.held;
-              outs = f.1.moved.outs ∙ (ap (λ (l : List Outbox). l ++ said works.outs) called.outs
-                  ∙ (append_assoc (outs_of old) (said m.outs) (said works.outs) ∙ ap (λ (l : List Outbox). outs_of old ++ l) (sym (said_both m.outs works.outs))));
+              outs = outs_then (owner_of m.world) (owner_of works.world) old mid new m.outs works.outs (owners_kept m.world works (until_idle_keeps c f.0 m.world)) called.outs f.1.moved.outs;
             };
             failed_is = told works.failed ∙ ap is_fault (sym f.1.answer_is);
           }),
@@ -118,7 +119,7 @@ pub record Goes {D : Type 0} (state : D → DiskState) (w : World) (start host :
   pub here : World
   pub told : List Outbox
   pub held : HoldsClients state here host
-  pub outs : outs_of host ≡ outs_of start ++ said told
+  pub outs : outs_of (owner_of here) host ≡ outs_of (owner_of here) start ++ said told
   pub ready : IsReady here c table (last + done)
   pub goes : (shapes : List Shape) (lucks : List Luck) → (ss : List Shape) × (ls : List Luck)
       × (resolve_each c table way ss ls pairs w ≡ put_before told (resolve_each c table way shapes lucks rest here))
@@ -149,7 +150,7 @@ module _ {D : Type 0} (state : D → DiskState) (start : ClientHost D) (c table 
       here = w;
       told = [];
       held = h;
-      outs = sym (append-nil (outs_of start));
+      outs = sym (append-nil (outs_of (owner_of w) start));
       ready = subst (λ (n : ℕ). IsReady w c table n) (let is : last ≡ last + 0 = omega arith in is) r;
       goes = λ shapes lucks. (shapes, lucks, refl);
     };
@@ -161,9 +162,9 @@ module _ {D : Type 0} (state : D → DiskState) (start : ClientHost D) (c table 
       abbrev row : Moved
       row = resolve_row c table way shape pair lucks d.here
 
-      behind_outs : outs_of new ≡ outs_of start ++ said (d.told ++ row.outs)
-      behind_outs = k.moved.outs ∙ (ap (λ (l : List Outbox). l ++ said row.outs) d.outs
-          ∙ (append_assoc (outs_of start) (said d.told) (said row.outs) ∙ ap (λ (l : List Outbox). outs_of start ++ l) (sym (said_both d.told row.outs))))
+      behind_outs : outs_of (owner_of row.world) new ≡ outs_of (owner_of row.world) start ++ said (d.told ++ row.outs)
+      behind_outs =
+          outs_then (owner_of d.here) (owner_of row.world) start host new d.told row.outs (owners_kept d.here row (row_keeps c table way shape pair lucks d.here)) d.outs k.moved.outs
 
       -- all moves with these for the rows that come next
       all_goes : (shapes : List Shape) (more : List Luck) → (ss : List Shape) × (ls : List Luck)
@@ -259,7 +260,7 @@ module _ {D : Type 0} (state : D → DiskState) (start : ClientHost D) (c table 
         g.0,
         g.1,
         subst (λ (y : Moved). IsFollowed state start host y (answers.Number count) (answers.Number count)) (sym g.2) (record {
-          moved = record { held = d.held; outs = d.outs ∙ ap (λ (l : List Outbox). outs_of start ++ said l) (sym (append-nil d.told)) };
+          moved = record { held = d.held; outs = d.outs ∙ ap (λ (l : List Outbox). outs_of (owner_of d.here) start ++ said l) (sym (append-nil d.told)) };
           answer_is = refl;
         }),
       )
@@ -352,11 +353,15 @@ module _ {D : Type 0} (state : D → DiskState) (w : World) (old mid : ClientHos
           (record {
             answer_is = ap (λ (a : facts.Answer). Some a) (sym r.2.answer_is);
             held = r.2.moved.held;
-            outs = r.2.moved.outs ∙ ap (λ (l : List Outbox). l ++ said (resolve_each c table way r.0 r.1 (client_pairs (client_at w c) table) w).outs)
-                (outs_back state w old mid c table way plan_shape _ question answer k.2);
+            outs = r.2.moved.outs ∙ ap (λ (l : List Outbox). l ++ said all.outs)
+                (subst (λ (owners : ℕ → ℕ). outs_of owners mid ≡ outs_of owners old) (sym (owners_kept w all (each_keeps c table way r.0 r.1 (client_pairs (client_at w c) table) w)))
+                (outs_back state w old mid c table way plan_shape _ question answer k.2));
           }),
     )
       where
+        all : Moved
+        all = resolve_each c table way r.0 r.1 (client_pairs (client_at w c) table) w
+
         -- the question takes no more than the first luck
         ap_first : call w c (ResolveAll table way) plan_shape (first_luck all_lucks ∷ r.1) ≡ call w c (ResolveAll table way) plan_shape all_lucks
         ap_first = looks_alone w c (ResolveAll table way) plan_shape (first_luck all_lucks ∷ r.1) (all_still c plan_shape table way)

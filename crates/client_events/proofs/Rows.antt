@@ -20,9 +20,10 @@ use Rattle.step_tables.specs.Messages as messages
 use Rattle.step_tables.specs.ClientMoves.{Slots, TableDisk, RowPut, Plan, ClientDisk, ClientTask, Client, ClientMove, ClientStep, Shape, Resolve, Work, choose, client_step, is_before_phase, is_cut_off, if_closed, keeps, kept_out, no_shape, over_fitting, phases_by, planning, put_row, resolve_in, resolve_over, row_put, seen, slots_at, table_at, with_table}
 use Rattle.step_tables.specs.ClientMoves as client
 use Rattle.world_tables.specs.World.{World, Moved, and_then, and_unless, answering, client_at, client_tasks, client_until_idle, client_works, first_luck, other_lucks, is_client_down, is_cut, is_fault, is_resolving, move_client, moved_client, reads, refused, unless_cut, unless_kept}
-use Rattle.world_tables.specs.World.{chosen_of, resolve_by, resolve_each, plan_size}
+use Rattle.world_tables.specs.World.{chosen_of, first_shape, other_shapes, resolve_by, resolve_each, plan_size}
 use Rattle.world_laws.proofs.Working.{moved_is, moved_at, all_changed, Always, works_end, or_true, or_false}
 use Rattle.journal_host.specs.Moves.{move_alone, alone_there, call_alone}
+use Rattle.journal_host.proofs.Keeping.{KeepsMoved, still_keeps, unless_then_keeps, resolve_by_keeps, until_idle_keeps}
 use Rattle.client_events.specs.Resolves.{resolve_row, IsReady}
 
 -- ---- what a client that is idle makes of it
@@ -288,3 +289,19 @@ module _ (c table : ℕ) (way : Stored) (shape : Shape) (shapes : List Shape) (p
     where
       dropped : drop (1 + plan_size c first.world) row_lucks ≡ more
       dropped = ap (λ (n : ℕ). drop n row_lucks) (let is : 1 + length tasks ≡ suc (length tasks) = omega arith in is) ∙ drop_fit tasks (other_lucks lucks) more
+
+-- ---- what stays of the world
+
+pub row_keeps : (c table : ℕ) (way : Stored) (shape : Shape) (pair : RowPair) (lucks : List Luck) (w : World) → KeepsMoved w (resolve_row c table way shape pair lucks w)
+row_keeps c table way shape pair lucks w =
+    let first : Moved = resolve_by c table way shape pair (first_luck lucks) w in
+    unless_then_keeps w first (client_until_idle c (other_lucks lucks)) (resolve_by_keeps c table way shape pair (first_luck lucks) w) (until_idle_keeps c (other_lucks lucks) first.world)
+
+pub each_keeps : (c table : ℕ) (way : Stored) (shapes : List Shape) (lucks : List Luck) (pairs : List RowPair) (w : World) → KeepsMoved w (resolve_each c table way shapes lucks pairs w)
+each_keeps c table way shapes lucks [] w = still_keeps w
+each_keeps c table way shapes lucks (pair ∷ pairs) w =
+    let first : Moved = resolve_by c table way (first_shape shapes) pair (first_luck lucks) w in
+    let all : Moved = resolve_row c table way (first_shape shapes) pair lucks w in
+    let more : List Luck = drop (1 + plan_size c first.world) lucks in
+    unless_then_keeps w all (resolve_each c table way (other_shapes shapes) more pairs) (row_keeps c table way (first_shape shapes) pair lucks w)
+    (each_keeps c table way (other_shapes shapes) more pairs all.world)

@@ -1,7 +1,6 @@
 -- An event that is a client's move and the work that follows it.
-use Rattle.std.proofs.Common.{◌≡◌, ◌⊎◌, inl, inr, ⊎_elim, ℕ, ◌<◌, ◌++◌, Bool, true, false, List, ◌∷◌, Option, Some, Result, Ok, Err, refl, sym, ap, ◌∙◌, subst, append_assoc}
+use Rattle.std.proofs.Common.{◌≡◌, ◌⊎◌, inl, inr, ⊎_elim, ℕ, ◌<◌, Bool, true, false, List, ◌∷◌, Option, Some, Result, Ok, Err, refl, sym, ap, ◌∙◌, subst}
 use Rattle.std.specs.Prelude.{IfOk, IfErr, OnErr, if◌then◌else◌}
-use Rattle.std.proofs.lemmas.List.Elements.{filter-append}
 use Rattle.disk_trait.specs.Calls.{DiskState}
 use Rattle.stab_base.specs.declared.node.Node.TheVariants as nodes
 use Rattle.table_model.specs.declared.line.Answer.{Answer}
@@ -11,14 +10,16 @@ use Rattle.step_tables.specs.Facts as facts
 use Rattle.step_tables.specs.Lines.{answer_of}
 use Rattle.step_tables.specs.Messages.{Luck}
 use Rattle.step_tables.specs.ClientMoves.{Shape}
-use Rattle.world_tables.specs.World.{World, WorldStep, Moved, Outbox, client_at, client_tasks, client_until_idle, first_luck, other_lucks, has_node}
+use Rattle.world_tables.specs.World.{World, WorldStep, Moved, owner_of, client_at, client_tasks, client_until_idle, first_luck, other_lucks, has_node}
 use Rattle.journal_host.specs.declared.fault.ClientFault.{ClientFault}
 use Rattle.journal_host.specs.declared.fault.ClientFault.TheVariants as faults
 use Rattle.journal_host.specs.declared.host.ClientHost.{ClientHost}
 use Rattle.journal_host.specs.Calls.{IsCalled, Comes, Stays, HasCause}
-use Rattle.journal_host.specs.Holds.{HoldsClients, AreClients, outs_of, said, says_something, faults_at}
+use Rattle.journal_host.specs.Holds.{HoldsClients, AreClients, faults_at}
 use Rattle.journal_host.specs.Steps.{IsDeviceFault}
 use Rattle.journal_host.specs.Moves.{then_moves, has_work}
+use Rattle.journal_host.proofs.Lists.{outs_then}
+use Rattle.journal_host.proofs.Keeping.{until_idle_keeps, owners_kept}
 use Rattle.client_events.specs.Follow.{Rests, IsFollowed, Follows, HasWorkCause}
 
 -- The event is the move alone where the client is on hold or was at work, and else has all its writes behind; the move
@@ -69,19 +70,14 @@ ends_so : (failed : Bool) (o : Option facts.Answer) (a g : facts.Answer) → o �
 ends_so true o a g is end = ap (λ (x : facts.Answer). Some x) (sym end)
 ends_so false o a g is end = is ∙ ap (λ (x : facts.Answer). Some x) (sym end)
 
-pub said_both : (a b : List Outbox) → said (a ++ b) ≡ said a ++ said b
-said_both a b = filter-append says_something a b
-
 module _ {D : Type 0} (state : D → DiskState) (old mid new : ClientHost D) where
   -- moves behind a move
-  then_called : (s : WorldStep) (f : World → Moved) (answer given : Answer) → IsCalled state old mid s answer → IsFollowed state mid new (f s.world) answer given
-      → IsCalled state old new (then_moves s f) given
-  then_called s f answer given k x = record {
+  then_called : (s : WorldStep) (f : World → Moved) (answer given : Answer) → owner_of (f s.world).world ≡ owner_of s.world → IsCalled state old mid s answer
+      → IsFollowed state mid new (f s.world) answer given → IsCalled state old new (then_moves s f) given
+  then_called s f answer given same k x = record {
     answer_is = ends_so (f s.world).failed s.answer (answer_of answer) (answer_of given) k.answer_is x.answer_is;
     held = x.moved.held;
-    outs = x.moved.outs
-        ∙ (ap (λ l. l ++ said (f s.world).outs) k.outs
-        ∙ (append_assoc (outs_of old) (said s.outs) (said (f s.world).outs) ∙ ap (λ l. outs_of old ++ l) (sym (said_both s.outs (f s.world).outs))));
+    outs = outs_then (owner_of s.world) (owner_of (f s.world).world) old mid new s.outs (f s.world).outs same k.outs x.moved.outs;
   }
 
   module _ (w : World) (c : ℕ) (event alone : Shape → List Luck → WorldStep) (e : IsEvent w c event alone) where
@@ -100,7 +96,9 @@ module _ {D : Type 0} (state : D → DiskState) (old mid new : ClientHost D) whe
     follows_called answer (Ok given) shape lucks idle free k f = (
       shape,
       first_luck lucks ∷ f.0,
-      subst (λ (s : WorldStep). IsCalled state old new s given) (sym same) (then_called (alone shape lucks) (client_until_idle c f.0) answer given k f.1),
+      subst (λ (s : WorldStep). IsCalled state old new s given) (sym same)
+          (then_called (alone shape lucks) (client_until_idle c f.0) answer given (owners_kept (alone shape lucks).world (client_until_idle c f.0 (alone shape lucks).world) (until_idle_keeps c f.0 (alone shape lucks).world))
+          k f.1),
     )
       where
         same : event shape (first_luck lucks ∷ f.0) ≡ then_moves (alone shape lucks) (client_until_idle c f.0)

@@ -11,7 +11,7 @@ use Rattle.step_tables.specs.Lines.{answer_of}
 use Rattle.step_tables.specs.Messages.{Luck}
 use Rattle.step_tables.specs.ClientMoves.{ClientTask}
 use Rattle.client_node.specs.declared.node.ClientNode.{ClientNode}
-use Rattle.world_tables.specs.World.{World, client_at, client_tasks, client_works, client_until_idle, all_worked}
+use Rattle.world_tables.specs.World.{World, owner_of, client_at, client_tasks, client_works, client_until_idle, all_worked}
 use Rattle.journal_host.specs.declared.fault.ClientFault.{ClientFault}
 use Rattle.journal_host.specs.declared.host.ClientHost.{ClientHost}
 use Rattle.journal_host.specs.Calls.{IsCalled, HasCause}
@@ -62,7 +62,7 @@ pub none_to_do : {D : Type 0} (state : D → DiskState) (w : World) (host : Clie
 none_to_do state w host c answer h idle = ([], by (client_tasks (client_at w c)) idle)
   where
     by : (tasks : List ClientTask) → has_work tasks ≡ false → IsFollowed state host host (client_works c tasks [] w) answer answer
-    by [] is = record { moved = record { held = h; outs = sym (append-nil (outs_of host)) }; answer_is = refl }
+    by [] is = record { moved = record { held = h; outs = sym (append-nil (outs_of (owner_of w) host)) }; answer_is = refl }
     by (task ∷ more) is = absurd cc
 
 -- ---- which disks failed

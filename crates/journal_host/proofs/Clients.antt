@@ -25,18 +25,19 @@ use Rattle.client_node.specs.Node.{IsClient, IsNode, told_by, has_task, HasPlans
 use Rattle.client_node.proofs.PlanNumbers.{next_below}
 use Rattle.client_node.specs.Linked.{linked_step, phased_step, unless_kept as kept_step}
 use Rattle.client_node.specs.Phases.{is_open}
-use Rattle.world_tables.specs.World.{World, WorldStep, Packet, client_at, is_cut, is_resolving, is_down, is_client_down, is_fault, first_luck, move_client, answered, refused, reads, unless_kept, unless_cut, packets_from, client_tasks, tasks_in}
+use Rattle.world_tables.specs.World.{World, WorldStep, Packet, owner_of, client_at, is_cut, is_resolving, is_down, is_client_down, is_fault, first_luck, move_client, answered, refused, reads, unless_kept, unless_cut, packets_from, client_tasks, tasks_in}
 use Rattle.journal_host.specs.declared.asking.Request.{Request}
 use Rattle.journal_host.specs.declared.asking.Request.TheVariants as requests
 use Rattle.journal_host.specs.declared.fault.ClientFault.{ClientFault}
 use Rattle.journal_host.specs.declared.host.ClientHost.{ClientHost}
 use Rattle.journal_host.specs.Asks.{asked_by, AreAsked, FitsDisk, FitsAt, FitsIn}
 use Rattle.table_model.specs.declared.line.RowPair.{RowPair}
-use Rattle.journal_host.specs.Holds.{IsHosted, ClientThere, HasClients, HasPhases, HavePhases, HoldsClients, KeepsClients, AreClients, outs_in, node_faults, faults_in, faults_at, SameFaults, RisenFaults, HavePlansBelow}
+use Rattle.journal_host.specs.Holds.{IsHosted, ClientThere, HasClients, HasPhases, HavePhases, HoldsClients, KeepsClients, AreClients, outs_in, AreSameOuts, node_faults, faults_in, faults_at, SameFaults, RisenFaults, HavePlansBelow}
 use Rattle.journal_host.specs.Phases.{SamePhases, MovesPhases, answer_in}
 use Rattle.journal_host.specs.Steps.{HasTold, IsMade, IsFallen, IsDropped, HasNodeCause, HasAnswerCause}
 use Rattle.journal_host.specs.Calls.{IsMoved, IsCalled, Comes, Stays, HasCause, HasMoveCause, HasLuck, IsNumberCause}
 use Rattle.journal_host.specs.Moves.{move_alone, alone_there, call_alone, take_there, take_alone, has_work}
+use Rattle.journal_host.proofs.Lists.{no_more}
 use Rattle.journal_host.proofs.Phased.{LeavesPhases, refusal_leaves, moves_as, open_stays, kept_same, phases_at, phases_same, phases_moved}
 
 pub at_same : (k q : ℕ) → is_at (nat_cmp k) q ≡ true → k ≡ q
@@ -151,11 +152,11 @@ module _ {D : Type 0} (state : D → DiskState) (w : World) (old new : ClientHos
   move_done move shape t k = rw at (record {
     held = record {
       there = moved_clients state w old.clients new.clients c after h.there u (client_step c shape s move).client
-          (w.packets ++ packets_from (nodes.Client c) (client_step c shape s move).sends) t.behind;
+          (w.packets ++ packets_from (owner_of w) (nodes.Client c) (client_step c shape s move).sends) t.behind;
       phases = phases_moved w old.clients new.clients c after h.phases u node there_is state (client_step c shape s move).client.disk (client_step c shape s move).client.agenda move
           (client_step c shape s move).answer t.behind.client k;
     };
-    outs = t.outs;
+    outs = t.outs (owner_of w);
   })
 
   -- one that changes nothing
@@ -167,7 +168,7 @@ module _ {D : Type 0} (state : D → DiskState) (w : World) (old new : ClientHos
   nothing_done a answer is t same = record {
     answer_is = ap Some is;
     held = held_still t.behind same;
-    outs = t.outs;
+    outs = t.outs (owner_of w);
   }
 
   module _ (move : ClientMove) (hosted : IsHosted state (is_cut w c) c s node) where
@@ -293,7 +294,7 @@ module _ {D : Type 0} (state : D → DiskState) (w : World) (old new : ClientHos
         let d = down is_down in
         at_client answer (is_down_called state w old new c node after h is u there.0 there.1 move there.2 answer
         (ap is_client_down there.1 ∙ down_is state node there.0.disk there.0.agenda there.2.client is_down) says
-        (record { behind = subst (λ (n : ClientNode D). IsHosted state (is_cut w c) c there.0 n) (sym d.0) there.2; outs = ap outs_in d.1 ∙ sym (append-nil (outs_in old.outs.items)) })
+        (record { behind = subst (λ (n : ClientNode D). IsHosted state (is_cut w c) c there.0 n) (sym d.0) there.2; outs = λ owners. no_more owners old.outs.items new.outs.items d.1 })
         (λ table. ap (λ (n : ClientNode D). is_open n table) d.0))
 
   up_there : node.is_up ≡ true → is_client_down (client_at w c) ≡ false
@@ -352,18 +353,17 @@ module _ {D : Type 0} (state : D → DiskState) (w : World) (old new : ClientHos
                 held = held_still state w old new c node after h is u there.0 there.1 x.told.behind
                     (open_stays state node after there.0.disk there.0.agenda move (answer_of answer) there.2.client x.told.behind.client
                     (dropped_leaves there.0.disk request (λ fits. unfit (fits_back fits)) (Some there.0) (answer_of answer)) p);
-                outs = x.told.outs
-                    ∙ append-nil (outs_in old.outs.items);
+                outs = λ owners. x.told.outs owners ∙ append-nil (outs_in owners old.outs.items);
               },
             ))
             (λ x. inr (when_up answer up p x)) (made up)
         by false up (Ok answer) p made says = inr (when_down (λ d. let x = down d in (x.0, x.1)) answer up (says up))
 
-    pub client_kept : ((cut : Bool) (s : Client) → IsHosted state cut c s node → OnErr r (IsHosted state cut c s after × (outs_in new.outs.items ≡ outs_in old.outs.items)))
+    pub client_kept : ((cut : Bool) (s : Client) → IsHosted state cut c s node → OnErr r (IsHosted state cut c s after × AreSameOuts old.outs.items new.outs.items))
         → OnErr r (Stays state w old new)
     client_kept kept = by r (moves (Some there.0)) (kept (is_cut w c) there.0 there.2)
       where
-        by : (r : Result Answer ClientFault) → MovesPhases move (answer_in r) node after → OnErr r (IsHosted state (is_cut w c) c there.0 after × (outs_in new.outs.items ≡ outs_in old.outs.items)) → OnErr r (Stays state w old new)
+        by : (r : Result Answer ClientFault) → MovesPhases move (answer_in r) node after → OnErr r (IsHosted state (is_cut w c) c there.0 after × AreSameOuts old.outs.items new.outs.items) → OnErr r (Stays state w old new)
         by (Ok answer) p k = tt
         by (Err e) p k = record {
           held = held_still state w old new c node after h is u there.0 there.1 k.0
@@ -469,7 +469,7 @@ module _ {D : Type 0} (state : D → DiskState) (w : World) (old new : ClientHos
 
   -- it answers so, and nothing happens
   pub nowhere_answers : (a : facts.Answer) (answer : Answer) → a ≡ answer_of answer → IsCalled state old new (answered w a) answer
-  nowhere_answers a answer is = record { answer_is = ap Some is; held = nowhere_held; outs = ap outs_in outs ∙ sym (append-nil (outs_in old.outs.items)) }
+  nowhere_answers a answer is = record { answer_is = ap Some is; held = nowhere_held; outs = no_more (owner_of w) old.outs.items new.outs.items outs }
 
   pub nowhere : (move : ClientMove) → (shape : Shape) × (lucks : List Luck) × IsCalled state old new (call_alone w c move shape lucks) (answers.Refused refusals.NoTable)
   nowhere move = (

@@ -1,5 +1,5 @@
 -- A link that goes up or down.
-use Rattle.std.proofs.Common.{◌≡◌, ℕ, ◌++◌, Bool, true, false, cond, List, [], ◌∷◌, Option, Some, None, refl, sym, ap, ◌∙◌, subst, append-nil}
+use Rattle.std.proofs.Common.{◌≡◌, ℕ, ◌++◌, Bool, true, false, cond, List, [], ◌∷◌, Option, Some, None, refl, sym, ap, ◌∙◌, subst}
 use Rattle.std.specs.Prelude.{not, ◌||◌, ◌==◌, filter, if◌then◌else◌}
 use Rattle.std.specs.List.{list_any}
 use Rattle.std.specs.Ordering.{nat_cmp}
@@ -17,11 +17,12 @@ use Rattle.step_tables.specs.Facts as facts
 use Rattle.step_tables.specs.Lines.{answer_of}
 use Rattle.step_tables.specs.ClientMoves.{Client}
 use Rattle.client_node.specs.declared.node.ClientNode.{ClientNode}
-use Rattle.world_tables.specs.World.{World, client_at, is_cut, is_client_down, same_node, with_link, linked, answered, refused}
+use Rattle.world_tables.specs.World.{World, owner_of, client_at, is_cut, is_client_down, same_node, with_link, linked, answered, refused}
 use Rattle.journal_host.specs.declared.host.ClientHost.{ClientHost}
-use Rattle.journal_host.specs.Holds.{IsHosted, HavePhases, HoldsClients, outs_in, outs_of}
+use Rattle.journal_host.specs.Holds.{IsHosted, HavePhases, HoldsClients, outs_of}
 use Rattle.journal_host.specs.Phases.{SamePhases}
 use Rattle.journal_host.specs.Calls.{IsCalled}
+use Rattle.journal_host.proofs.Lists.{no_more}
 use Rattle.journal_host.proofs.Clients.{at_same, found, not_found, put_client, held_still, nowhere_answers, up_is, down_is}
 use Rattle.journal_host.proofs.Phased.{phases_same}
 
@@ -90,8 +91,8 @@ module _ {D : Type 0} (state : D → DiskState) (w : World) (old new : ClientHos
     here : (s : Client) × (client_at w c ≡ Some s) × IsHosted state (is_cut w c) c s node
     here = found state w old.clients c h.there node is
 
-    no_outs : outs_of new ≡ outs_of old ++ []
-    no_outs = ap outs_in outs ∙ sym (append-nil (outs_of old))
+    no_outs : (owners : ℕ → ℕ) → outs_of owners new ≡ outs_of owners old ++ []
+    no_outs owners = no_more owners old.outs.items new.outs.items outs
 
     link_up : IsHosted state (not up) c here.0 after → answer ≡ answers.Done → IsCalled state old new (answered (with_link c up w) facts.Done) answer
     link_up at says = record {
@@ -102,7 +103,7 @@ module _ {D : Type 0} (state : D → DiskState) (w : World) (old new : ClientHos
             (subst (λ (cut : Bool). IsHosted state cut c here.0 after) (sym (cut_here w c up)) at);
         phases = link_phases up (phases_same w old.clients new.clients c after h.phases u node is phases);
       };
-      outs = no_outs;
+      outs = no_outs (owner_of (with_link c up w));
     }
       where
         link_phases : (b : Bool) → HavePhases w new.clients → HavePhases (with_link c b w) new.clients
@@ -117,7 +118,7 @@ module _ {D : Type 0} (state : D → DiskState) (w : World) (old new : ClientHos
     link_down same says = record {
       answer_is = ap (λ (a : Answer). Some (answer_of a)) (sym says);
       held = held_still state w old new c node after h is u here.0 here.1 (subst (λ (n : ClientNode D). IsHosted state (is_cut w c) c here.0 n) (sym same) here.2) phases;
-      outs = no_outs;
+      outs = no_outs (owner_of w);
     }
 
     pub link_there : ((cut : Bool) (s : Client) → IsHosted state cut c s node → node.is_up ≡ true → IsHosted state (not up) c s after × (answer ≡ answers.Done))

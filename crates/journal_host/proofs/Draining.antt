@@ -7,7 +7,6 @@ use Rattle.std.specs.BTreeMap.{is_at, insert_entry}
 use Rattle.std.specs.BTreeMap as tree
 use Rattle.std.specs.Map.{lookup}
 use Rattle.std.proofs.lemmas.Bool.{eq-eqb}
-use Rattle.std.proofs.lemmas.List.Elements.{filter-append}
 use Rattle.disk_trait.specs.Calls.{DiskState}
 use Rattle.stab_base.specs.declared.step.Step.{Step}
 use Rattle.stab_base.specs.declared.step.Step.TheVariants as steps
@@ -25,15 +24,17 @@ use Rattle.client_node.specs.declared.fault.CallFault.TheVariants.{Disk as DiskF
 use Rattle.client_node.specs.declared.node.ClientNode.{ClientNode}
 use Rattle.client_node.specs.Node.{IsClient, has_task}
 use Rattle.client_node.specs.Phases.{KeepsPhases}
-use Rattle.world_tables.specs.World.{World, Outbox, Packet, Moved, and_then, still, client_at, is_cut, client_tasks, tasks_in, client_writes, client_works, client_until_idle, worked, all_worked, move_there, moved_client, is_resolving, next_write, is_fault}
+use Rattle.world_tables.specs.World.{World, Outbox, Packet, Moved, owner_of, and_then, still, client_at, is_cut, client_tasks, tasks_in, client_writes, client_works, client_until_idle, worked, all_worked, move_there, moved_client, is_resolving, next_write, is_fault}
 use Rattle.journal_host.specs.declared.fault.ClientFault.TheVariants as faults
 use Rattle.journal_host.specs.declared.host.ClientHost.{ClientHost}
 use Rattle.journal_host.specs.Asks.{as_answer, refused_as, answered_as}
-use Rattle.journal_host.specs.Holds.{IsHosted, ClientThere, HasPhases, HoldsClients, outs_in, outs_of, said, says_something, SameFaults}
+use Rattle.journal_host.specs.Holds.{IsHosted, ClientThere, HasPhases, HoldsClients, outs_of, said, SameFaults}
 use Rattle.journal_host.specs.Phases.{MovesPhases}
 use Rattle.journal_host.specs.Steps.{HasTold}
 use Rattle.journal_host.specs.Calls.{IsMoved, IsCalled, HasMoveCause, HasCause}
 use Rattle.journal_host.specs.Moves.{has_work}
+use Rattle.journal_host.proofs.Lists.{no_more, outs_then}
+use Rattle.journal_host.proofs.Keeping.{works_keeps, owners_kept}
 use Rattle.journal_host.proofs.Replying.{same_err}
 use Rattle.journal_host.proofs.Clients.{at_same, found, not_found, move_done, held_still, nowhere_held}
 use Rattle.journal_host.proofs.Phased.{keeps_moves, keeps_stays, down_closed, has_as, resolving_left, resolving_apart}
@@ -89,8 +90,8 @@ module _ {D : Type 0} (state : D → DiskState) (w : World) (old new : ClientHos
   well : (d : ClientDisk) (agenda : Option (List ClientTask)) → client_at w c ≡ Some (record { disk = d; agenda = agenda })
       → HasTold state (is_cut w c) c (client_step c no_shape (record { disk = d; agenda = agenda }) (Work messages.Done)) after old.outs.items new.outs.items
       → IsMoved state old new (client_writes c messages.Done (client_tasks (client_at w c)) w)
-  well d None at t = let k = stays d None at t.behind in rw at (record { held = k; outs = t.outs })
-  well d (Some []) at t = let k = stays d (Some []) at t.behind in rw at (record { held = k; outs = t.outs })
+  well d None at t = let k = stays d None at t.behind in rw at (record { held = k; outs = t.outs (owner_of w) })
+  well d (Some []) at t = let k = stays d (Some []) at t.behind in rw at (record { held = k; outs = t.outs (owner_of w) })
   well d (Some (task ∷ rest)) at t = subst (λ (m : Moved). IsMoved state old new m) (sym (ap (λ (o : Option Client). client_writes c messages.Done (client_tasks o) w) at))
       (move_done state w old new c node after h is u (working d task rest) at (Work messages.Done) no_shape t (moves messages.Done (client_step c no_shape (working d task rest) (Work messages.Done)).answer))
 
@@ -138,7 +139,7 @@ pub none_moved : {D : Type 0} (state : D → DiskState) (w : World) (old new : C
     → IsMoved state old new (client_writes c messages.Done (client_tasks (client_at w c)) w) × (steps.Idle ≡ next_write (client_tasks (client_at w c)))
 none_moved {D} state w old new c h none same outs =
     let gone = (not_found state w old.clients c h.there none).0 in (
-      rw gone (record { held = nowhere_held state w old new c h none same outs; outs = ap outs_in outs ∙ sym (append-nil (outs_of old)) }),
+      rw gone (record { held = nowhere_held state w old new c h none same outs; outs = no_more (owner_of w) old.outs.items new.outs.items outs }),
       ap (λ (o : Option Client). next_write (client_tasks o))
           (sym gone),
     )
@@ -153,7 +154,7 @@ pub record Drains {D : Type 0} (state : D → DiskState) (w : World) (start host
   pub here : World
   pub told : List Outbox
   pub held : HoldsClients state here host
-  pub outs : outs_of host ≡ outs_of start ++ said told
+  pub outs : outs_of (owner_of here) host ≡ outs_of (owner_of here) start ++ said told
   pub goes : (lucks : List Luck) → (more : List Luck) × (client_works c (client_tasks (client_at w c)) more w ≡ put_before told (client_works c (client_tasks (client_at here c)) lucks here))
   pub counted : length (client_tasks (client_at w c)) ≡ count + length (client_tasks (client_at here c))
 
@@ -210,12 +211,9 @@ after_bad c disk task rest messages.Done fails = absurd cc
 after_bad c disk task rest messages.FailedBefore fails = (disk, refl)
 after_bad c disk task rest messages.FailedAfter fails = (changed disk task.change, refl)
 
-said_both : (a b : List Outbox) → said (a ++ b) ≡ said a ++ said b
-said_both a b = filter-append says_something a b
-
 module _ {D : Type 0} (state : D → DiskState) (w : World) (start : ClientHost D) (c : ℕ) where
   pub drains : HoldsClients state w start → Drains state w start start c 0
-  drains h = record { here = w; told = []; held = h; outs = sym (append-nil (outs_of start)); goes = λ lucks. (lucks, refl); counted = omega arith }
+  drains h = record { here = w; told = []; held = h; outs = sym (append-nil (outs_of (owner_of w) start)); goes = λ lucks. (lucks, refl); counted = omega arith }
 
   module _ (host : ClientHost D) (count : ℕ) (d : Drains state w start host c count) where
     -- the client that has a write to do
@@ -243,9 +241,8 @@ module _ {D : Type 0} (state : D → DiskState) (w : World) (start : ClientHost 
         next : IsMoved state host new m
         next = subst (λ (x : Moved). IsMoved state host new x) (writes_are d.here c disk task rest luck at) moved
 
-        behind_outs : outs_of new ≡ outs_of start ++ said (d.told ++ m.outs)
-        behind_outs = next.outs ∙ (ap (λ (l : List Outbox). l ++ said m.outs) d.outs
-            ∙ (append_assoc (outs_of start) (said d.told) (said m.outs) ∙ ap (λ (l : List Outbox). outs_of start ++ l) (sym (said_both d.told m.outs))))
+        behind_outs : outs_of (owner_of d.here) new ≡ outs_of (owner_of d.here) start ++ said (d.told ++ m.outs)
+        behind_outs = outs_then (owner_of d.here) (owner_of d.here) start host new d.told m.outs refl d.outs next.outs
 
         -- what the work is from here
         works_on : (lucks : List Luck) → client_works c (client_tasks (client_at d.here c)) (luck ∷ lucks) d.here ≡ and_then m (client_works c rest lucks)
@@ -296,7 +293,7 @@ module _ {D : Type 0} (state : D → DiskState) (w : World) (start : ClientHost 
               omega (arith, before, none),
               g.0,
               ap (λ (m : Moved). m.failed) e,
-              subst (λ (m : Moved). IsMoved state start host m) (sym e) (record { held = d.held; outs = d.outs ∙ ap (λ (l : List Outbox). outs_of start ++ said l) (sym (append-nil d.told)) }),
+              subst (λ (m : Moved). IsMoved state start host m) (sym e) (record { held = d.held; outs = d.outs ∙ ap (λ (l : List Outbox). outs_of (owner_of d.here) start ++ said l) (sym (append-nil d.told)) }),
             )
 
     bad_at : (disk : ClientDisk) (task : ClientTask) (rest : List ClientTask) → client_at d.here c ≡ Some (working disk task rest) → (new : ClientHost D) (luck : Luck)
@@ -316,10 +313,10 @@ module _ {D : Type 0} (state : D → DiskState) (w : World) (start : ClientHost 
           ap (λ (y : Moved). y.failed) e ∙ ap (λ (b : Bool). b || r.failed) failed,
           subst (λ (y : Moved). IsMoved state start new y) (sym e) (record {
             held = rests.rests_held;
-            outs = behind_outs disk task rest at new luck moved
-                ∙ ap (λ (l : List Outbox). outs_of start ++ l)
-                (sym (ap (λ (l : List Outbox). said l) (sym (append_assoc d.told x.outs r.outs))
-                ∙ (said_both (d.told ++ x.outs) r.outs ∙ (ap (λ (l : List Outbox). said (d.told ++ x.outs) ++ l) rests.rests_said ∙ append-nil (said (d.told ++ x.outs))))));
+            outs = outs_then (owner_of d.here) (owner_of r.world) start new new (d.told ++ x.outs) r.outs (owners_kept x.world r (works_keeps c rest [] x.world))
+                (behind_outs disk task rest at new luck moved)
+                (sym (append-nil (outs_of (owner_of r.world) new)) ∙ ap (λ (l : List Outbox). outs_of (owner_of r.world) new ++ l) (sym rests.rests_said))
+                ∙ ap (λ (l : List Outbox). outs_of (owner_of r.world) start ++ said l) (append_assoc d.told x.outs r.outs);
           }),
         )
 

@@ -20,14 +20,15 @@ use Rattle.client_node.specs.declared.node.ClientNode.{ClientNode}
 use Rattle.client_node.specs.Node.{IsToOpen, IsClient, to_open, opened_all, told_by, sent_by}
 use Rattle.client_node.specs.Phases.{is_open, KeepsPhases}
 use Rattle.client_node.specs.Calls.{Stays as NodeStays}
-use Rattle.world_tables.specs.World.{World, Moved, client_at, schema_at, is_cut, is_client_down, move_there, client_crashes, luck_of, crash_luck, first_luck, other_lucks, answering, answered, joined, open_all, with_opened, new_client, first_agenda}
+use Rattle.world_tables.specs.World.{World, Moved, owner_of, client_at, schema_at, is_cut, is_client_down, move_there, client_crashes, luck_of, crash_luck, first_luck, other_lucks, answering, answered, joined, open_all, with_opened, new_client, first_agenda}
 use Rattle.journal_host.specs.declared.fault.ClientFault.{ClientFault}
 use Rattle.journal_host.specs.declared.host.ClientHost.{ClientHost}
-use Rattle.journal_host.specs.Holds.{IsHosted, HoldsClients, HasSchemas, AreToOpen, outs_in, outs_of, node_faults, faults_in, faults_at}
+use Rattle.journal_host.specs.Holds.{IsHosted, HoldsClients, HasSchemas, AreToOpen, outs_of, AreSameOuts, node_faults, faults_in, faults_at}
 use Rattle.journal_host.specs.Steps.{HasTold, HasCrashed, IsStarted, IsNotStarted}
 use Rattle.journal_host.specs.Calls.{IsMoved, IsCalled, Stays, HasLuck}
 use Rattle.journal_host.specs.Moves.{start_alone, starts_alone}
 use Rattle.journal_host.specs.Opening.{put_before, declared_among, HasJoinLuck}
+use Rattle.journal_host.proofs.Lists.{no_more}
 use Rattle.journal_host.proofs.Clients.{at_same, busy_is, found, not_found, luck_there, move_done, held_still, moved_clients, nowhere_held, nowhere_answers}
 use Rattle.journal_host.proofs.Phased.{keeps_moves, keeps_stays, put_phases, none_resolves}
 
@@ -52,7 +53,7 @@ module _ {D : Type 0} (state : D → DiskState) (w : World) (old new : ClientHos
     where
       silent : (s : Client) (luck : Luck) → HasTold state (is_cut w c) c (client_step c no_shape s (Crash luck)) after [] []
           → HasTold state (is_cut w c) c (client_step c no_shape s (Crash luck)) after old.outs.items new.outs.items
-      silent s luck t = record { behind = t.behind; outs = ap outs_in same ∙ (sym (append-nil (outs_of old)) ∙ ap (λ l. outs_of old ++ l) t.outs) }
+      silent s luck t = record { behind = t.behind; outs = λ owners. no_more owners old.outs.items new.outs.items same ∙ ap (λ l. outs_of owners old ++ l) (t.outs owners) }
 
   pub crash_none : None ≡ tree.get nat_cmp old.clients c → new.clients ≡ old.clients → new.outs.items ≡ old.outs.items
       → (lucks : List Luck) × IsMoved state old new (client_crashes c calls lucks w) × HasLuck state w c old.clients new.clients lucks
@@ -60,7 +61,7 @@ module _ {D : Type 0} (state : D → DiskState) (w : World) (old new : ClientHos
       let gone = ap (λ (o : Option Client). move_there w c (Crash (luck_of calls messages.Done)) no_shape o) (not_found state w old.clients c h.there none).0 in (
         [],
         subst (λ (m : Moved). IsMoved state old new m) (sym gone)
-            (record { held = nowhere_held state w old new c h none same outs; outs = ap outs_in outs ∙ sym (append-nil (outs_of old)) }),
+            (record { held = nowhere_held state w old new c h none same outs; outs = no_more (owner_of w) old.outs.items new.outs.items outs }),
         record { done = λ as_before. refl; counted = λ is q. ap (λ m. faults_at state m q) same; cause = λ isnt. absurd (isnt refl); idle = λ none q. ap (λ m. faults_at state m q) same },
       )
 
@@ -100,7 +101,7 @@ module _ {D : Type 0} (state : D → DiskState) (w : World) (old new : ClientHos
       no_shape,
       [],
       subst (λ (b : Bool). IsCalled state old new (if b then answering facts.Done (starts_alone c no_shape messages.Done w) else answered w facts.Done) answer) (sym (ap is_client_down at))
-          (record { answer_is = ap (λ (a : Answer). Some (answer_of a)) (sym k.answer_is); held = stays_held (record { disk = d; agenda = Some tasks }) at k.told.behind; outs = k.told.outs }),
+          (record { answer_is = ap (λ (a : Answer). Some (answer_of a)) (sym k.answer_is); held = stays_held (record { disk = d; agenda = Some tasks }) at k.told.behind; outs = k.told.outs (owner_of w) }),
     )
 
     not_started : (d : ClientDisk) (agenda : Option (List ClientTask)) → client_at w c ≡ Some (record { disk = d; agenda = agenda }) → (answer : Answer)
@@ -113,7 +114,7 @@ module _ {D : Type 0} (state : D → DiskState) (w : World) (old new : ClientHos
           (record {
             answer_is = ap (λ (a : Answer). Some (answer_of a)) (sym k.answer_is);
             held = stays_held (record { disk = d; agenda = None }) at k.held;
-            outs = k.outs ∙ sym (append-nil (outs_of old));
+            outs = k.outs (owner_of w) ∙ sym (append-nil (outs_of (owner_of w) old));
           }),
     )
 
@@ -130,10 +131,10 @@ module _ {D : Type 0} (state : D → DiskState) (w : World) (old new : ClientHos
         by s at (Ok answer) x = ⊎_elim (λ y. is_started s.disk s.agenda at answer y) (λ y. not_started s.disk s.agenda at answer y) x
 
     pub start_stays : (r : Result Answer ClientFault)
-        → ((cut : Bool) (s : Client) → IsHosted state cut c s node → OnErr r (IsHosted state cut c s after × (outs_in new.outs.items ≡ outs_in old.outs.items))) → OnErr r (Stays state w old new)
+        → ((cut : Bool) (s : Client) → IsHosted state cut c s node → OnErr r (IsHosted state cut c s after × AreSameOuts old.outs.items new.outs.items)) → OnErr r (Stays state w old new)
     start_stays r k = let f = found state w old.clients c h.there node is in by f.0 f.1 r (k (is_cut w c) f.0 f.2)
       where
-        by : (s : Client) → client_at w c ≡ Some s → (r : Result Answer ClientFault) → OnErr r (IsHosted state (is_cut w c) c s after × (outs_in new.outs.items ≡ outs_in old.outs.items))
+        by : (s : Client) → client_at w c ≡ Some s → (r : Result Answer ClientFault) → OnErr r (IsHosted state (is_cut w c) c s after × AreSameOuts old.outs.items new.outs.items)
             → OnErr r (Stays state w old new)
         by s at (Ok answer) x = tt
         by s at (Err e) x = record { held = stays_held s at x.0; outs = x.1 }

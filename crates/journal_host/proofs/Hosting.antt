@@ -35,7 +35,7 @@ use Rattle.journal_host.specs.declared.fault.ClientFault.TheVariants as faults
 use Rattle.journal_host.specs.declared.out.ClientOut.{ClientOut}
 use Rattle.journal_host.specs.Asks.{move_of, asked_by, FitsDisk, as_answer, refused_as, answered_as}
 use Rattle.journal_host.specs.Calls.{IsNumberCause}
-use Rattle.journal_host.specs.Holds.{IsHosted, outs_in, said, node_faults}
+use Rattle.journal_host.specs.Holds.{IsHosted, outs_in, AreSameOuts, said, node_faults}
 use Rattle.journal_host.specs.Steps.{HasMade, HasDropped, Replies, IsTelling, HasTold, IsMade, IsListing, IsFallen, IsDropped, IsStarted, IsNotStarted, IsDeviceFault, HasNodeCause, HasAnswerCause, outbox_at}
 use Rattle.journal_host.proofs.Replying.{same_err, replies_any}
 use Rattle.journal_host.proofs.Refusals.{RefusesOnly, kept_only, write_only, edit_only, show_only, sum_only, sync_only, next_only, phase_only, conflicts_only, resolve_only, all_only, take_only}
@@ -127,8 +127,8 @@ module _ {D : Type 0} (state : D → DiskState) where
 
   -- one that tells nothing
   pub told_none : (cut : Bool) (c : ℕ) (d : ClientDisk) (agenda : Option (List ClientTask)) (a : facts.Answer) (node : ClientNode D) (before after : List ClientOut)
-      → HasTold state cut c (quiet d agenda a) node before after → IsHosted state cut c (record { disk = d; agenda = agenda }) node × (outs_in after ≡ outs_in before)
-  told_none cut c d agenda a node before after k = (k.behind, k.outs ∙ append-nil (outs_in before))
+      → HasTold state cut c (quiet d agenda a) node before after → IsHosted state cut c (record { disk = d; agenda = agenda }) node × AreSameOuts before after
+  told_none cut c d agenda a node before after k = (k.behind, λ owners. k.outs owners ∙ append-nil (outs_in owners before))
 
 -- ---- calls
 
@@ -215,14 +215,14 @@ module _ {D : Type 0} (state : D → DiskState) (images : D → ℕ → List ℕ
 
   -- what a fault leaves
   pub kept : (done_so : Answer → Type 0) (r : Result Answer CallFault) → Replies state images s move old mid done_so r
-      → OnErr (answered_as r) (IsHosted state cut c s new × (outs_in after ≡ outs_in before))
+      → OnErr (answered_as r) (IsHosted state cut c s new × AreSameOuts before after)
   kept done_so (Ok answer) k = tt
   kept done_so (Err e) k = by e k.kept
     where
-      stays : Stays state old mid s → IsHosted state cut c s new × (outs_in after ≡ outs_in before)
+      stays : Stays state old mid s → IsHosted state cut c s new × AreSameOuts before after
       stays k = told_none state cut c d (Some tasks) facts.Done new before after (tells (quiet d (Some tasks) facts.Done) (telling_none state cut c s old h mid d (Some tasks) facts.Done k))
 
-      by : (e : CallFault) → ((IsErrOf {T = Answer} (Err e) call.Disk → ⊥) → Stays state old mid s) → OnErr (refused_as e) (IsHosted state cut c s new × (outs_in after ≡ outs_in before))
+      by : (e : CallFault) → ((IsErrOf {T = Answer} (Err e) call.Disk → ⊥) → Stays state old mid s) → OnErr (refused_as e) (IsHosted state cut c s new × AreSameOuts before after)
       by call.NoTable was = tt
       by (call.BadCell column) was = tt
       by (call.BadObject column len) was = tt
@@ -347,7 +347,7 @@ module _ {D : Type 0} (state : D → DiskState) (images : D → ℕ → List ℕ
   pub call_kept : (d : ClientDisk) (agenda : Option (List ClientTask)) → IsHosted state cut c (record { disk = d; agenda = agenda }) old → old.is_up ≡ true
       → Replies state images (record { disk = d; agenda = agenda }) (asked_by (Some (record { disk = d; agenda = agenda })) request) old mid (HasMade state (record { disk = d; agenda = agenda }) (asked_by (Some (record { disk = d; agenda = agenda })) request) old mid) r
       ⊎ Replies state images (record { disk = d; agenda = agenda }) (asked_by (Some (record { disk = d; agenda = agenda })) request) old mid (HasDropped state (record { disk = d; agenda = agenda }) old mid) r
-      → OnErr (answered_as r) (IsHosted state cut c (record { disk = d; agenda = agenda }) new × (outs_in after ≡ outs_in before))
+      → OnErr (answered_as r) (IsHosted state cut c (record { disk = d; agenda = agenda }) new × AreSameOuts before after)
   call_kept d None h up k = let down = h.client.at.0 in absurd cc
   call_kept d (Some tasks) h up (inl k) = kept state images cut c d tasks (asked_by (Some (record { disk = d; agenda = Some tasks })) request) (λ shape. asked_only c shape d tasks request) old mid new before after h tells (HasMade state (record { disk = d; agenda = Some tasks }) (asked_by (Some (record { disk = d; agenda = Some tasks })) request) old mid) r k
   call_kept d (Some tasks) h up (inr k) = kept state images cut c d tasks (asked_by (Some (record { disk = d; agenda = Some tasks })) request) (λ shape. asked_only c shape d tasks request) old mid new before after h tells (HasDropped state (record { disk = d; agenda = Some tasks }) old mid) r k
@@ -427,7 +427,7 @@ module _ {D : Type 0} (state : D → DiskState) (images : D → ℕ → List ℕ
 
     pub list_kept : (d : ClientDisk) (agenda : Option (List ClientTask)) → IsHosted state cut c (record { disk = d; agenda = agenda }) old → old.is_up ≡ true
         → Does state images (record { disk = d; agenda = agenda }) (Conflicts table) (λ listed. facts.Pairs listed) old mid r
-        → OnErr (answered_as (as_answer gives r)) (IsHosted state cut c (record { disk = d; agenda = agenda }) new × (outs_in after ≡ outs_in before))
+        → OnErr (answered_as (as_answer gives r)) (IsHosted state cut c (record { disk = d; agenda = agenda }) new × AreSameOuts before after)
     list_kept d None h up k = let down = h.client.at.0 in absurd cc
     list_kept d (Some tasks) h up k = kept state images cut c d tasks (Conflicts table) (one_only d tasks h) old mid new before after h tells (λ answer. Unit {0}) (as_answer gives r)
         (replies_any state images (record { disk = d; agenda = Some tasks }) old mid (Conflicts table) (λ listed. facts.Pairs listed) gives r k)
@@ -491,21 +491,21 @@ module _ {D : Type 0} (state : D → DiskState) (cut : Bool) (c : ℕ) where
       → has_task agenda ≡ false
       → HasTold state cut c (client_step c no_shape (record { disk = d; agenda = agenda }) (Work messages.Done)) node outs outs × (steps.Idle ≡ next_write (tasks_in agenda))
   idle_works d (Some (task ∷ tasks)) node outs h idle = absurd cc
-  idle_works d (Some []) node outs h idle = (record { behind = h; outs = sym (append-nil (outs_in outs)) }, refl)
-  idle_works d None node outs h idle = (record { behind = h; outs = sym (append-nil (outs_in outs)) }, refl)
+  idle_works d (Some []) node outs h idle = (record { behind = h; outs = λ owners. sym (append-nil (outs_in owners outs)) }, refl)
+  idle_works d None node outs h idle = (record { behind = h; outs = λ owners. sym (append-nil (outs_in owners outs)) }, refl)
 
   -- one that is up goes on
   pub up_starts : (d : ClientDisk) (agenda : Option (List ClientTask)) (node : ClientNode D) (outs : List ClientOut) → IsHosted state cut c (record { disk = d; agenda = agenda }) node → node.is_up
       ≡ true
       → IsStarted state cut c (record { disk = d; agenda = agenda }) node outs outs answers.Done
   up_starts d None node outs h up = let down = h.client.at.0 in absurd cc
-  up_starts d (Some tasks) node outs h up = record { shape = no_shape; told = record { behind = h; outs = sym (append-nil (outs_in outs)) }; answer_is = refl }
+  up_starts d (Some tasks) node outs h up = record { shape = no_shape; told = record { behind = h; outs = λ owners. sym (append-nil (outs_in owners outs)) }; answer_is = refl }
 
   -- nor does one that is down crash
   pub down_crashes : (d : ClientDisk) (agenda : Option (List ClientTask)) (node : ClientNode D) (luck : Luck) → IsHosted state cut c (record { disk = d; agenda = agenda }) node → node.is_up ≡ false
       → HasTold state cut c (client_step c no_shape (record { disk = d; agenda = agenda }) (Crash luck)) node [] []
   down_crashes d (Some tasks) node luck h down = let up = h.client.at.0 in absurd cc
-  down_crashes d None node luck h down = record { behind = h; outs = refl }
+  down_crashes d None node luck h down = record { behind = h; outs = λ owners. refl }
 
   -- a crash tells nothing
   pub crashes_silent : (s : Client) (old new : ClientNode D) (luck : Luck) → IsHosted state cut c s old → IsBehind state old new (client_step old.number no_shape s (Crash luck))
@@ -515,8 +515,8 @@ module _ {D : Type 0} (state : D → DiskState) (cut : Bool) (c : ℕ) where
       let none = crash_silent c s.disk s.agenda luck in
       record {
         behind = record { client = t.client; number = t.number; linked = t.linked; told = t.told ∙ none.0; sent = t.sent ∙ none.1 };
-        outs = sym (ap (λ (l : List Fact). said (record (outbox_at c (client_step c no_shape s (Crash luck))) { facts = l } ∷ [])) none.0
-            ∙ ap (λ (l : List Send). said (record { facts = []; packets = packets_from (nodes.Client c) l } ∷ [])) none.1);
+        outs = λ owners. sym (ap (λ (l : List Fact). said (record (outbox_at owners c (client_step c no_shape s (Crash luck))) { facts = l } ∷ [])) none.0
+            ∙ ap (λ (l : List Send). said (record { facts = []; packets = packets_from owners (nodes.Client c) l } ∷ [])) none.1);
       }
 
 pub works_cause : {D : Type 0} (state : D → DiskState) (images : D → ℕ → List ℕ → Type 0) (s : Client) (old mid : ClientNode D) (r : Result Step CallFault) → Works state images s old mid r
@@ -532,7 +532,7 @@ module _ {D : Type 0} (state : D → DiskState) (images : D → ℕ → List ℕ
   abbrev it : Client
   it = record { disk = d; agenda = agenda }
 
-  stays_down : Stays state old mid it → IsHosted state cut c it new × (outs_in after ≡ outs_in before)
+  stays_down : Stays state old mid it → IsHosted state cut c it new × AreSameOuts before after
   stays_down k = told_none state cut c d agenda facts.Done new before after (tells (quiet d agenda facts.Done) (telling_none state cut c it old h mid d agenda facts.Done k))
 
   pub start_answered : (r : Result (Unit {0}) CallFault) → Starts state images it old mid r
@@ -557,7 +557,7 @@ module _ {D : Type 0} (state : D → DiskState) (images : D → ℕ → List ℕ
   start_answered (Err (call.Spent last)) k = absurd (⊎_elim (λ is. absurd cc) (λ is. absurd cc) k.only)
 
   pub start_kept : (r : Result (Unit {0}) CallFault) → Starts state images it old mid r
-      → OnErr (answered_as (as_answer (λ x. answers.Done) r)) (IsHosted state cut c it new × (outs_in after ≡ outs_in before))
+      → OnErr (answered_as (as_answer (λ x. answers.Done) r)) (IsHosted state cut c it new × AreSameOuts before after)
   start_kept (Ok x) k = tt
   start_kept (Err e) k = any (refused_as e) (stays_down k.refused)
     where

@@ -1,4 +1,5 @@
 pub mod Lists
+pub mod Keeping
 pub mod Phased
 pub mod Alone
 pub mod Refusals

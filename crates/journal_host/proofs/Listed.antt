@@ -1,5 +1,5 @@
 -- The rows in conflict that a client lists.
-use Rattle.std.proofs.Common.{◌≡◌, ◌⊎◌, ⊎_elim, ℕ, length, Bool, true, false, cond, List, [], Option, Some, None, Result, Ok, Err, refl, sym, ap, ◌∙◌, subst, append-nil}
+use Rattle.std.proofs.Common.{◌≡◌, ◌⊎◌, ⊎_elim, ℕ, length, Bool, true, false, cond, List, [], Option, Some, None, Result, Ok, Err, refl, sym, ap, ◌∙◌, subst}
 use Rattle.std.specs.Prelude.{not, ◌&&◌, map, IfOk, OnErr, IfErr, if◌then◌else◌}
 use Rattle.std.specs.Ordering.{nat_cmp}
 use Rattle.std.specs.BTreeMap.{is_at}
@@ -22,11 +22,12 @@ use Rattle.client_node.specs.Phases.{is_open, KeepsPhases}
 use Rattle.world_tables.specs.World.{World, WorldStep, listed, client_at, is_cut, is_resolving, is_client_down, refused, unless_kept, unless_cut}
 use Rattle.journal_host.specs.declared.fault.ClientFault.{ClientFault}
 use Rattle.journal_host.specs.declared.host.ClientHost.{ClientHost}
-use Rattle.journal_host.specs.Holds.{IsHosted, HoldsClients, outs_in, HavePlansBelow}
+use Rattle.journal_host.specs.Holds.{IsHosted, HoldsClients, AreSameOuts, HavePlansBelow}
 use Rattle.journal_host.specs.Phases.{MovesPhases}
 use Rattle.journal_host.specs.Steps.{HasTold, IsMade, IsListing, IsFallen}
 use Rattle.journal_host.specs.Calls.{IsCalled, IsListed, Stays, IsNumberCause}
 use Rattle.journal_host.specs.Moves.{move_alone, alone_there, call_alone}
+use Rattle.journal_host.proofs.Lists.{no_more}
 use Rattle.journal_host.proofs.Alone.{alone_cases}
 use Rattle.journal_host.proofs.Phased.{keeps_moves, keeps_stays, kept_same, phases_at}
 use Rattle.journal_host.proofs.Clients.{given_is, found, not_found, not_twice, up_is, down_is, move_done, held_still, is_made, is_fallen, is_down_called, nowhere_answers}
@@ -147,7 +148,7 @@ module _ {D : Type 0} (state : D → DiskState) (w : World) (old new : ClientHos
   when_down : (answer : Answer) → node.is_up ≡ false → after ≡ node → new.outs.items ≡ old.outs.items → answer ≡ answers.Refused (refusals.Down (nodes.Client c)) → Listed [] answer
   when_down answer down same outs says = as_any answer
       (is_down_called state w old new c node after h is u s there.1 (Conflicts table) there.2 answer (ap is_client_down there.1 ∙ down_is state node s.disk s.agenda there.2.client down) says
-      (record { behind = subst (λ (n : ClientNode D). IsHosted state (is_cut w c) c s n) (sym same) there.2; outs = ap outs_in outs ∙ sym (append-nil (outs_in old.outs.items)) })
+      (record { behind = subst (λ (n : ClientNode D). IsHosted state (is_cut w c) c s n) (sym same) there.2; outs = λ owners. no_more owners old.outs.items new.outs.items outs })
       (λ other. ap (λ (n : ClientNode D). is_open n other) same))
 
   module _ (r : Result Answer ClientFault) (pairs none : List RowPair) (is_none : none ≡ [])
@@ -171,10 +172,10 @@ module _ {D : Type 0} (state : D → DiskState) (w : World) (old new : ClientHos
         by false up (Ok answer) made says = let d = down up in nothing answer d.2 (when_down answer up d.0 d.1 (says up))
 
   pub list_stays : (r : Result Answer ClientFault)
-      → ((cut : Bool) (s : Client) → IsHosted state cut c s node → OnErr r (IsHosted state cut c s after × (outs_in new.outs.items ≡ outs_in old.outs.items))) → OnErr r (Stays state w old new)
+      → ((cut : Bool) (s : Client) → IsHosted state cut c s node → OnErr r (IsHosted state cut c s after × AreSameOuts old.outs.items new.outs.items)) → OnErr r (Stays state w old new)
   list_stays r kept_so = by r (kept_so (is_cut w c) s there.2)
     where
-      by : (r : Result Answer ClientFault) → OnErr r (IsHosted state (is_cut w c) c s after × (outs_in new.outs.items ≡ outs_in old.outs.items)) → OnErr r (Stays state w old new)
+      by : (r : Result Answer ClientFault) → OnErr r (IsHosted state (is_cut w c) c s after × AreSameOuts old.outs.items new.outs.items) → OnErr r (Stays state w old new)
       by (Ok answer) k = tt
       by (Err e) k = record {
         held = held_still state w old new c node after h is u s there.1 k.0 (keeps_stays state node after s.disk s.agenda there.2.client k.0.client keeps);

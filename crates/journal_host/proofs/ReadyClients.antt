@@ -8,7 +8,7 @@ use Rattle.step_tables.specs.ClientMoves.{ClientDisk, ClientTask, Client}
 use Rattle.client_node.specs.declared.node.ClientNode.{ClientNode}
 use Rattle.client_node.specs.Node.{IsAt, has_task}
 use Rattle.world_tables.specs.Ready.{is_idle, is_idle_client, is_client_ready}
-use Rattle.world_tables.specs.World.{World, client_at, is_cut}
+use Rattle.world_tables.specs.World.{World, is_cut}
 use Rattle.journal_host.specs.declared.host.ClientHost.{ClientHost}
 use Rattle.journal_host.specs.Holds.{IsHosted, HoldsClients}
 use Rattle.journal_host.proofs.Clients.{found, not_found}

@@ -1,5 +1,5 @@
 -- What a client holds of a row, and which tables it has.
-use Rattle.std.proofs.Common.{◌≡◌, ◌⊎◌, ℕ, Bool, true, false, cond, List, [], ◌∷◌, Option, Some, None, Result, Ok, Err, refl, sym, ap, ◌∙◌, subst, append-nil}
+use Rattle.std.proofs.Common.{◌≡◌, ℕ, Bool, true, false, cond, List, [], ◌∷◌, Option, Some, None, Result, Ok, refl, sym, ap, ◌∙◌, subst}
 use Rattle.std.specs.Prelude.{IfOk, IsErrOf, is_some, option_map}
 use Rattle.std.specs.Ordering.{nat_cmp}
 use Rattle.std.specs.BTreeMap.{is_at}
@@ -18,8 +18,9 @@ use Rattle.client_node.specs.Phases.{KeepsPhases}
 use Rattle.world_tables.specs.World.{World, client_at, client_falls, is_cut, is_client_down}
 use Rattle.journal_host.specs.declared.host.ClientHost.{ClientHost}
 use Rattle.journal_host.specs.Calls.{IsMoved, Stays, HasMoveCause, held_by, has_table}
-use Rattle.journal_host.specs.Holds.{IsHosted, HoldsClients, AreClients, outs_in, faults_at}
+use Rattle.journal_host.specs.Holds.{IsHosted, HoldsClients, outs_in, faults_at}
 use Rattle.journal_host.specs.Steps.{HasTold, HasNodeCause}
+use Rattle.journal_host.proofs.Lists.{no_more}
 use Rattle.journal_host.proofs.Clients.{found, not_found, down_is, move_done, held_still, nowhere_held}
 use Rattle.journal_host.proofs.Phased.{keeps_stays}
 
@@ -53,14 +54,14 @@ module _ {D T : Type 0} (state : D → DiskState) (images : D → ℕ → List �
       let t = (reads there.0 there.2.client).kept n in
       record {
         held = held_still state w old new c node after h is u there.0 there.1 (hosted there.0 t) (keeps_stays state node after there.0.disk there.0.agenda there.2.client t.client keeps);
-        outs = ap outs_in outs;
+        outs = λ owners. ap (outs_in owners) outs;
       }
 
   crash_told : (d : ClientDisk) (agenda : Option (List ClientTask)) → IsHosted state (is_cut w c) c (record { disk = d; agenda = None }) after
       → HasTold state (is_cut w c) c (client_step c no_shape (record { disk = d; agenda = agenda }) (Crash messages.FailedBefore)) after old.outs.items new.outs.items
-  crash_told d None k = record { behind = k; outs = ap outs_in outs ∙ sym (append-nil (outs_in old.outs.items)) }
-  crash_told d (Some []) k = record { behind = k; outs = ap outs_in outs ∙ sym (append-nil (outs_in old.outs.items)) }
-  crash_told d (Some (task ∷ more)) k = record { behind = k; outs = ap outs_in outs ∙ sym (append-nil (outs_in old.outs.items)) }
+  crash_told d None k = record { behind = k; outs = λ owners. no_more owners old.outs.items new.outs.items outs }
+  crash_told d (Some []) k = record { behind = k; outs = λ owners. no_more owners old.outs.items new.outs.items outs }
+  crash_told d (Some (task ∷ more)) k = record { behind = k; outs = λ owners. no_more owners old.outs.items new.outs.items outs }
 
   pub row_fallen : IsErrOf r Disk → IsMoved state old new (client_falls c w)
   row_fallen bad =
@@ -92,7 +93,7 @@ pub nowhere_opened : {D : Type 0} (state : D → DiskState) (w : World) (old : C
 nowhere_opened state w old c table h none = sym (ap (λ (o : Option Client). has_table o table) (not_found state w old.clients c h.there none).0)
 
 pub nowhere_stays : {D : Type 0} (state : D → DiskState) (w : World) (old new : ClientHost D) (c : ℕ) → HoldsClients state w old → None ≡ tree.get nat_cmp old.clients c → new.clients ≡ old.clients → new.outs.items ≡ old.outs.items → Stays state w old new
-nowhere_stays state w old new c h none same outs = record { held = nowhere_held state w old new c h none same outs; outs = ap outs_in outs }
+nowhere_stays state w old new c h none same outs = record { held = nowhere_held state w old new c h none same outs; outs = λ owners. ap (outs_in owners) outs }
 
 pub nowhere_cause : {D T : Type 0} (state : D → DiskState) (c : ℕ) (old new : tree.BTreeMap ℕ (ClientNode D)) → new ≡ old → (x : T) → HasMoveCause state c old new (Ok x)
 nowhere_cause {D} {T} state c old new same x = record { counted = λ n q. ap (λ (m : tree.BTreeMap ℕ (ClientNode D)). faults_at state m q) same; cause = λ bad. absurd cc; only = tt }

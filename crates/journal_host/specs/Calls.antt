@@ -15,11 +15,11 @@ use Rattle.client_node.specs.declared.calls.held.RowHeld.{RowHeld}
 use Rattle.client_node.specs.declared.fault.CallFault.{CallFault}
 use Rattle.client_node.specs.declared.fault.CallFault.TheVariants.{Disk, Memory}
 use Rattle.client_node.specs.declared.node.ClientNode.{ClientNode}
-use Rattle.world_tables.specs.World.{World, WorldStep, Moved, listed, client_at, client_tasks, first_luck}
+use Rattle.world_tables.specs.World.{World, WorldStep, Moved, owner_of, listed, client_at, client_tasks, first_luck}
 use Rattle.journal_host.specs.declared.fault.ClientFault.{ClientFault}
 use Rattle.journal_host.specs.declared.fault.ClientFault.TheVariants as fault
 use Rattle.journal_host.specs.declared.host.ClientHost.{ClientHost}
-use Rattle.journal_host.specs.Holds.{HoldsClients, outs_of, said, SameFaults, RisenFaults}
+use Rattle.journal_host.specs.Holds.{HoldsClients, outs_of, AreSameOuts, said, SameFaults, RisenFaults}
 use Rattle.journal_host.specs.Moves.{has_work}
 use Rattle.journal_host.specs.Steps.{IsDeviceFault}
 
@@ -28,14 +28,14 @@ use Rattle.journal_host.specs.Steps.{IsDeviceFault}
 -- The clients are where these moves lead to from this world, and what the moves told and sent was put behind what was.
 pub record IsMoved {D : Type 0} (state : D → DiskState) (old new : ClientHost D) (m : Moved) : Type 0 where
   pub held : HoldsClients state m.world new
-  pub outs : outs_of new ≡ outs_of old ++ said m.outs
+  pub outs : outs_of (owner_of m.world) new ≡ outs_of (owner_of m.world) old ++ said m.outs
 
 -- The clients are where this event leads to, with this answer.
 pub record IsCalled {D : Type 0} (state : D → DiskState) (old new : ClientHost D) (s : WorldStep) (answer : Answer)
     : Type 0 where
   pub answer_is : s.answer ≡ Some (answer_of answer)
   pub held : HoldsClients state s.world new
-  pub outs : outs_of new ≡ outs_of old ++ said s.outs
+  pub outs : outs_of (owner_of s.world) new ≡ outs_of (owner_of s.world) old ++ said s.outs
 
 -- the same with some shape of a plan's writes and some lucks of the device calls
 abbrev pub Comes : {D : Type 0} → (D → DiskState) → (old new : ClientHost D) → (Shape → List Luck → WorldStep)
@@ -58,7 +58,7 @@ Lists state old new f pairs result = IfOk result (λ answer. (shape : Shape) × 
 -- Nothing has changed.
 pub record Stays {D : Type 0} (state : D → DiskState) (w : World) (old new : ClientHost D) : Type 0 where
   pub held : HoldsClients state w new
-  pub outs : outs_of new ≡ outs_of old
+  pub outs : AreSameOuts old.outs.items new.outs.items
 
 -- what a client holds of a row; one that isn't there holds none
 abbrev pub held_by : Option Client → ℕ → List ℕ → Option RowHeld

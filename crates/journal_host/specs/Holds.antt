@@ -84,17 +84,22 @@ AreToOpen schemas = (table : ℕ) (schema : Schema) → tree.get nat_cmp schemas
 
 -- ---- what was told and sent
 
-abbrev pub outbox_of : ClientOut → Outbox
-outbox_of it = record {
+-- a message without an address goes to the owner of its table
+abbrev pub outbox_of : (ℕ → ℕ) → ClientOut → Outbox
+outbox_of owners it = record {
   facts = map fact_of it.out.facts;
-  packets = packets_from (nodes.Client it.client) (map send_of it.out.messages);
+  packets = packets_from owners (nodes.Client it.client) (map send_of it.out.messages);
 }
 
-abbrev pub outs_in : List ClientOut → List Outbox
-outs_in outs = map outbox_of outs
+abbrev pub outs_in : (ℕ → ℕ) → List ClientOut → List Outbox
+outs_in owners outs = map (outbox_of owners) outs
 
-abbrev pub outs_of : {D : Type 0} → ClientHost D → List Outbox
-outs_of host = outs_in host.outs.items
+abbrev pub outs_of : {D : Type 0} → (ℕ → ℕ) → ClientHost D → List Outbox
+outs_of owners host = outs_in owners host.outs.items
+
+-- whoever keeps the tables, they are the same
+abbrev pub AreSameOuts : (old new : List ClientOut) → Type 0
+AreSameOuts old new = (owners : ℕ → ℕ) → outs_in owners new ≡ outs_in owners old
 
 abbrev pub is_empty : {X : Type 0} → List X → Bool
 is_empty [] = true

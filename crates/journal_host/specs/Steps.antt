@@ -22,7 +22,7 @@ use Rattle.client_node.specs.Linked.{phased_step}
 use Rattle.world_tables.specs.World.{Outbox, packets_from, crash_luck, first_luck, other_lucks}
 use Rattle.journal_host.specs.declared.fault.ClientFault.{ClientFault}
 use Rattle.journal_host.specs.declared.out.ClientOut.{ClientOut}
-use Rattle.journal_host.specs.Holds.{IsHosted, outs_in, said, node_faults}
+use Rattle.journal_host.specs.Holds.{IsHosted, outs_in, AreSameOuts, said, node_faults}
 
 -- ---- what a node makes of what it is asked for
 
@@ -54,8 +54,8 @@ pub record Replies {D : Type 0} (state : D → DiskState) (images : D → ℕ �
 -- ---- a step, and what it tells
 
 -- what a step tells and sends
-abbrev pub outbox_at : ℕ → ClientStep → Outbox
-outbox_at c s = record { facts = s.facts; packets = packets_from (nodes.Client c) s.sends }
+abbrev pub outbox_at : (ℕ → ℕ) → ℕ → ClientStep → Outbox
+outbox_at owners c s = record { facts = s.facts; packets = packets_from owners (nodes.Client c) s.sends }
 
 -- The node is behind a step, whose facts and messages it has gathered.
 pub record IsTelling {D : Type 0} (state : D → DiskState) (cut : Bool) (c : ℕ) (s : ClientStep) (node : ClientNode D)
@@ -70,7 +70,7 @@ pub record IsTelling {D : Type 0} (state : D → DiskState) (cut : Bool) (c : �
 pub record HasTold {D : Type 0} (state : D → DiskState) (cut : Bool) (c : ℕ) (s : ClientStep) (node : ClientNode D)
     (old new : List ClientOut) : Type 0 where
   pub behind : IsHosted state cut c s.client node
-  pub outs : outs_in new ≡ outs_in old ++ said (outbox_at c s ∷ [])
+  pub outs : (owners : ℕ → ℕ) → outs_in owners new ≡ outs_in owners old ++ said (outbox_at owners c s ∷ [])
 
 -- ---- calls
 
@@ -130,7 +130,7 @@ pub record IsNotStarted {D : Type 0} (state : D → DiskState) (cut : Bool) (c :
     (before after : List ClientOut) (answer : Answer) : Type 0 where
   pub held : IsHosted state cut c s new
   pub down : s.agenda ≡ None
-  pub outs : outs_in after ≡ outs_in before
+  pub outs : AreSameOuts before after
   pub answer_is : answer ≡ answers.Refused refusals.NoDevice
 
 -- ---- causes

@@ -19,7 +19,7 @@ ghost use Rattle.journal_host.specs.Asks.{move_of, asked_by, FitsIn, AreAsked, A
 ghost use Rattle.journal_host.specs.Calls.{IsMoved, IsCalled, Comes, Lists, Stays, HasCause, HasMoveCause};
 ghost use Rattle.journal_host.specs.Calls.{HasLuck, IsNumberCause, held_by, has_table};
 ghost use Rattle.journal_host.specs.Holds.{HoldsClients, AreClients, HasSchemas, AreToOpen, SameFaults, disks_at};
-ghost use Rattle.journal_host.specs.Holds.{outs_of, outs_in, faults_at, HavePlansBelow};
+ghost use Rattle.journal_host.specs.Holds.{faults_at, HavePlansBelow};
 ghost use Rattle.journal_host.specs.Opening.{HasJoinLuck};
 ghost use Rattle.journal_host.specs.Moves.{call_alone, take_alone, start_alone, has_work};
 
@@ -55,7 +55,7 @@ impl<D: Disk + Drop> ClientHost<D> {
     pub fn new(alloc: Global) -> ClientHost<D>
         ensures held { (w : AWorld) → w.clients ≡ [] → w.cuts ≡ [] → w.phases ≡ []
             → HoldsClients D.state w result }
-        ensures told { outs_of result ≡ [] }
+        ensures told { result.outs.items ≡ [] }
         ensures plans { (n : ℕ) → HavePlansBelow D.state n result.clients }
     {
         ClientHost {
@@ -106,8 +106,8 @@ impl<D: Disk + Drop> ClientHost<D> {
 
     /// Hands over what the moves so far told and sent, those that did neither left out. It takes no memory.
     pub fn take_outs(&mut self) -> Sequence<ClientOut>
-        ensures outs { outs_in result ≡ outs_of self.old }
-        ensures none { outs_of self.new ≡ [] }
+        ensures outs { result ≡ self.old.outs.items }
+        ensures none { self.new.outs.items ≡ [] }
         ensures held { (w : AWorld) → HoldsClients D.state w self.old → HoldsClients D.state w self.new }
         ensures clients { self.new.clients ≡ self.old.clients }
     {
@@ -137,7 +137,7 @@ impl<D: Disk + Drop> ClientHost<D> {
         ensures kept { (w : AWorld) → HoldsClients D.state w self.old → OnErr result (HoldsClients D.state w self.new) }
         ensures others { (q : ℕ) → q ≢ client
             → faults_at D.state self.new.clients q ≡ faults_at D.state self.old.clients q }
-        ensures outs { outs_of self.new ≡ outs_of self.old }
+        ensures outs { self.new.outs.items ≡ self.old.outs.items }
         ensures memory { IfErr result (λ e. e ≡ Memory) }
         ensures plans { (n : ℕ) → HavePlansBelow D.state n self.old.clients
             → HavePlansBelow D.state n self.new.clients }
@@ -509,7 +509,7 @@ impl<D: Disk + Drop> ClientHost<D> {
         ensures crashed { (w : AWorld) → HoldsClients D.state w self.old → (lucks : List Luck)
             × IsMoved D.state self.old self.new (client_crashes client calls lucks w)
             × HasLuck D.state w client self.old.clients self.new.clients lucks }
-        ensures outs { outs_of self.new ≡ outs_of self.old }
+        ensures outs { self.new.outs.items ≡ self.old.outs.items }
         ensures others { (q : ℕ) → q ≢ client
             → faults_at D.state self.new.clients q ≡ faults_at D.state self.old.clients q }
         ensures plans { (n : ℕ) → HavePlansBelow D.state n self.old.clients

@@ -15,7 +15,8 @@ ghost use Rattle.world_tables.specs.World.{next_write, tasks_in};
 ghost use Rattle.journal_host.specs.declared.fault.ClientFault.TheVariants as faults;
 ghost use Rattle.journal_host.specs.Asks.{asked_by, FitsDisk, AreAsked, AsksSome, answered_as};
 ghost use Rattle.journal_host.specs.Calls.{IsNumberCause};
-ghost use Rattle.journal_host.specs.Holds.{IsHosted, outs_in, outbox_of, says_something, said, node_faults};
+ghost use Rattle.journal_host.specs.Holds.{IsHosted, outs_in, AreSameOuts, outbox_of, says_something, said};
+ghost use Rattle.journal_host.specs.Holds.{node_faults};
 ghost use Rattle.journal_host.specs.Phases.{SamePhases, MovesPhases, answer_in};
 ghost use Rattle.journal_host.specs.Steps.{IsTelling, HasTold, IsMade, IsListing, IsFallen, IsDropped};
 ghost use Rattle.journal_host.specs.Steps.{HasNodeCause};
@@ -67,7 +68,7 @@ pub(crate) fn is_ready<D: Disk + Drop>(node: &ClientNode<D>) -> bool
 
 // Whether there is a fact or a message.
 fn says_something(it: &ClientOut) -> bool
-    ensures { result ≡ says_something (outbox_of it.now) }
+    ensures { (owners : ℕ → ℕ) → result ≡ says_something (outbox_of owners it.now) }
 {
     if it.out.facts.len() != 0 {
         return true;
@@ -78,7 +79,8 @@ fn says_something(it: &ClientOut) -> bool
 // Adds what a client told and sent where there is room for it, unless it is nothing.
 fn put(outs: &mut Vec<ClientOut>, it: ClientOut)
     requires { vec_len outs.old < vec_capacity outs.old }
-    ensures { outs_in outs.new.items ≡ outs_in outs.old.items ++ said (outbox_of it ∷ []) }
+    ensures { (owners : ℕ → ℕ) → outs_in owners outs.new.items
+        ≡ outs_in owners outs.old.items ++ said (outbox_of owners it ∷ []) }
 {
     if says_something(&it) {
         outs.push(it).unwrap();
@@ -123,7 +125,7 @@ fn call_up<D: Disk + Drop>(
     ensures spent { (cut : Bool) (s : Client) (n : ℕ) → IsHosted D.state cut client s node.old
         → HasPlansBelow D.state n node.old → FitsDisk s.disk request → IfErr result (IsNumberCause n (Some s)) }
     ensures kept { (cut : Bool) (s : Client) → IsHosted D.state cut client s node.old
-        → OnErr result (IsHosted D.state cut client s node.new × (outs_in outs.new.items ≡ outs_in outs.old.items)) }
+        → OnErr result (IsHosted D.state cut client s node.new × AreSameOuts outs.old.items outs.new.items) }
     ensures pairs { (cut : Bool) (s : Client) (count : ℕ) → IsHosted D.state cut client s node.old
         → result ≡ Ok (answers.Number count) → AreAsked (Some s) request pairs.new }
     ensures phases { (s : Option Client)
@@ -163,7 +165,7 @@ pub(crate) fn call<D: Disk + Drop>(
     ensures spent { (cut : Bool) (s : Client) (n : ℕ) → IsHosted D.state cut client s node.old
         → HasPlansBelow D.state n node.old → FitsDisk s.disk request → IfErr result (IsNumberCause n (Some s)) }
     ensures kept { (cut : Bool) (s : Client) → IsHosted D.state cut client s node.old
-        → OnErr result (IsHosted D.state cut client s node.new × (outs_in outs.new.items ≡ outs_in outs.old.items)) }
+        → OnErr result (IsHosted D.state cut client s node.new × AreSameOuts outs.old.items outs.new.items) }
     ensures pairs { (cut : Bool) (s : Client) (count : ℕ) → IsHosted D.state cut client s node.old
         → result ≡ Ok (answers.Number count) → AreAsked (Some s) request pairs.new }
     ensures phases { (s : Option Client)
@@ -197,7 +199,7 @@ fn list_up<D: Disk + Drop>(
     ensures spent { (cut : Bool) (s : Client) (n : ℕ) → IsHosted D.state cut client s node.old
         → HasPlansBelow D.state n node.old → IfErr result (IsNumberCause n (Some s)) }
     ensures kept { (cut : Bool) (s : Client) → IsHosted D.state cut client s node.old
-        → OnErr result (IsHosted D.state cut client s node.new × (outs_in outs.new.items ≡ outs_in outs.old.items)) }
+        → OnErr result (IsHosted D.state cut client s node.new × AreSameOuts outs.old.items outs.new.items) }
     ensures phases { KeepsPhases node.old node.new }
     ensures cause { HasAnswerCause D.state node.old node.new result }
     ensures plans { (n : ℕ) → HasPlansBelow D.state n node.old → HasPlansBelow D.state (suc n) node.new }
@@ -230,7 +232,7 @@ pub(crate) fn list<D: Disk + Drop>(
     ensures spent { (cut : Bool) (s : Client) (n : ℕ) → IsHosted D.state cut client s node.old
         → HasPlansBelow D.state n node.old → IfErr result (IsNumberCause n (Some s)) }
     ensures kept { (cut : Bool) (s : Client) → IsHosted D.state cut client s node.old
-        → OnErr result (IsHosted D.state cut client s node.new × (outs_in outs.new.items ≡ outs_in outs.old.items)) }
+        → OnErr result (IsHosted D.state cut client s node.new × AreSameOuts outs.old.items outs.new.items) }
     ensures phases { KeepsPhases node.old node.new }
     ensures cause { HasAnswerCause D.state node.old node.new result }
     ensures plans { (n : ℕ) → HasPlansBelow D.state n node.old → HasPlansBelow D.state (suc n) node.new }
@@ -340,7 +342,7 @@ fn start_down<D: Disk + Drop>(
         IsStarted D.state cut client s node.new outs.old.items outs.new.items answer
         ⊎ IsNotStarted D.state cut client s node.new outs.old.items outs.new.items answer) }
     ensures kept { (cut : Bool) (s : Client) → IsHosted D.state cut client s node.old
-        → OnErr result (IsHosted D.state cut client s node.new × (outs_in outs.new.items ≡ outs_in outs.old.items)) }
+        → OnErr result (IsHosted D.state cut client s node.new × AreSameOuts outs.old.items outs.new.items) }
     ensures phases { KeepsPhases node.old node.new }
     ensures cause { HasAnswerCause D.state node.old node.new result }
     ensures memory { IfErr result (λ e. e ≡ faults.Memory) }
@@ -364,7 +366,7 @@ pub(crate) fn start<D: Disk + Drop>(
         IsStarted D.state cut client s node.new outs.old.items outs.new.items answer
         ⊎ IsNotStarted D.state cut client s node.new outs.old.items outs.new.items answer) }
     ensures kept { (cut : Bool) (s : Client) → IsHosted D.state cut client s node.old
-        → OnErr result (IsHosted D.state cut client s node.new × (outs_in outs.new.items ≡ outs_in outs.old.items)) }
+        → OnErr result (IsHosted D.state cut client s node.new × AreSameOuts outs.old.items outs.new.items) }
     ensures phases { KeepsPhases node.old node.new }
     ensures cause { HasAnswerCause D.state node.old node.new result }
     ensures memory { IfErr result (λ e. e ≡ faults.Memory) }

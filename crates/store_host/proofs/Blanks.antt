@@ -1,5 +1,5 @@
 -- What a crash leaves of a table that is added on blank disks.
-use Rattle.std.proofs.Common.{◌≡◌, ◌⊎◌, inr, ⊎_elim, ℕ, ◌≤◌, cond, List, length, Some, sym, ◌∙◌, ap, subst}
+use Rattle.std.proofs.Common.{◌≡◌, ℕ, ◌≤◌, cond, List, length, Some, sym, ◌∙◌, ap, subst}
 use Rattle.std.specs.declared.cmp.Ordering.{Ordering}
 use Rattle.std.specs.Ordering.{nat_cmp, is_eq}
 use Rattle.std.specs.BTreeMap as tree
@@ -19,10 +19,8 @@ use Rattle.status_log.specs.Standing as logs
 use Rattle.row_value.specs.declared.schema.Schema.{Schema}
 use Rattle.store_commit.specs.declared.devs.TableDevs.{TableDevs}
 use Rattle.store_commit.specs.Standing.{RowsLeave}
-use Rattle.store_commit.proofs.Moments.{rows_then}
-use Rattle.device_laws.specs.Stands.{HasRows}
 use Rattle.store_node.specs.declared.node.TableNode.{TableNode}
-use Rattle.store_node.specs.Node.{HasBlankDisks, HasNoRows, LeavesNone, LeavesRows, nothing_stored}
+use Rattle.store_node.specs.Node.{HasBlankDisks, HasNoRows}
 use Rattle.store_host.specs.declared.hosted.Hosted.{Hosted}
 use Rattle.store_host.specs.Holds.{IsBlankDisk, AreBlankDisks, LeavesNoRow}
 
@@ -45,14 +43,6 @@ module _ {D : Type 0} (state : D → DiskState) where
 
     abbrev im : FuseDisk D → ℕ → List ℕ → Type 0
     im f = images (inner_of f)
-
-    -- a table that was declared, and then taken down
-    pub none_halted : (old mid new : TableNode D) → mid.schema ≡ old.schema → LeavesNone state images old mid → LeavesRows state images mid new nothing_stored nothing_stored
-        → RowsLeave st im old.devs new.devs (HasNoRows old.schema)
-    none_halted old mid new same first second =
-        rows_then st im old.devs mid.devs new.devs (HasNoRows old.schema) (λ held. HasRows mid.schema held nothing_stored ⊎ HasRows mid.schema held nothing_stored) (HasNoRows old.schema) first.rows_left second
-        (λ held none. none)
-        (λ held either. inr (subst (λ (schema : Schema). HasRows schema held nothing_stored) same (⊎_elim (λ a. a) (λ b. b) either)))
 
     -- of the table that was put in
     pub none_added : (made it : Hosted D) (start : TableDevs (FuseDisk D)) (schema : Schema) (row_disk : D) → it ≡ made → inner_of (disk_of (rows.vault_of start.rows)) ≡ row_disk → made.node.schema ≡ schema

@@ -5,11 +5,12 @@ use Rattle.step_tables.specs.Messages.{Luck}
 use Rattle.step_tables.specs.Messages as messages
 use Rattle.step_tables.specs.Store.{Stored}
 use Rattle.step_tables.specs.StoreMoves.{StoreDisk, StoreTask, TableStore, StoreStep, StoreMove, Work, Crash, Start, worked, crashed, started, recover, recovered, item_at, changed}
-use Rattle.world_tables.specs.World.{World, Hosted, Moved, hosted_at, owner, and_then, after_table, table_step, move_hosted, move_table, start_hosted, table_starts}
-use Rattle.world_tables.specs.World.{table_falls, store_falls, or_falls, write_next, table_crashes, declared_late, tasks_in, tables_start, and_unless, first_luck, other_lucks}
+use Rattle.world_tables.specs.World.{World, Hosted, Moved, hosted_at, owner_of, and_then, after_table, table_step, move_hosted, move_table, start_hosted, table_starts}
+use Rattle.world_tables.specs.World.{table_falls, tables_fall, store_falls, or_falls, write_next, table_crashes, declared_late, tasks_in, tables_start, and_unless, first_luck, other_lucks}
 use Rattle.world_tables.specs.Passed.{after_tasks}
 use Rattle.store_host.specs.Holds.{behind_step}
-use Rattle.store_host.proofs.Ups.{look_cases}
+use Rattle.store_host.specs.Calls.{restart_moves}
+use Rattle.store_host.proofs.Maps.{look_cases}
 
 -- of each declared table of the first world there is something in the second that is so to it
 pub record IsFrom (Q : TableStore → TableStore → Type 0) (w v : World) : Type 0 where
@@ -104,10 +105,10 @@ crash_from luck None w = from_itself GoesOn goes_itself w
 crash_from luck (Some table) w = move_from GoesOn goes_itself (Crash luck) (λ v t hosted. crash_goes hosted.store.disk hosted.store.agenda luck) w table
 
 -- a write that went well
-pub write_from : (w : World) (table : ℕ) → (move_table table (Work messages.Done) w).failed ≡ false → IsFrom GoesOn w (write_next owner messages.Done (Some table) w).world
-write_from w table well =
+pub write_from : (number : ℕ) (w : World) (table : ℕ) → (move_table table (Work messages.Done) w).failed ≡ false → IsFrom GoesOn w (write_next number messages.Done (Some table) w).world
+write_from number w table well =
     let m : Moved = move_table table (Work messages.Done) w in
-    let is : or_falls owner m ≡ m = ap (λ (b : Bool). if b then and_then m (store_falls owner) else m) well in
+    let is : or_falls number m ≡ m = ap (λ (b : Bool). if b then and_then m (store_falls number) else m) well in
     subst (λ (x : Moved). IsFrom GoesOn w x.world) (sym is) (work_from messages.Done w table)
 
 -- ---- falls
@@ -122,21 +123,21 @@ fall_from = move_from SameDisk (λ s. refl) (Crash messages.FailedBefore) (λ w 
 
 -- ---- starts
 
-found_disk : (table : ℕ) (disk : StoreDisk) (pending : Stored) (o : Option Stored) → (recovered owner table disk pending o).store.disk ≡ disk
-found_disk table disk pending None = refl
-found_disk table disk pending (Some item) = refl
+found_disk : (number table : ℕ) (disk : StoreDisk) (pending : Stored) (o : Option Stored) → (recovered number table disk pending o).store.disk ≡ disk
+found_disk number table disk pending None = refl
+found_disk number table disk pending (Some item) = refl
 
-pending_disk : (table : ℕ) (disk : StoreDisk) (o : Option Stored) → (recover owner table disk o).store.disk ≡ disk
-pending_disk table disk None = refl
-pending_disk table disk (Some pending) = found_disk table disk pending (item_at pending.entry.version disk.items)
+pending_disk : (number table : ℕ) (disk : StoreDisk) (o : Option Stored) → (recover number table disk o).store.disk ≡ disk
+pending_disk number table disk None = refl
+pending_disk number table disk (Some pending) = found_disk number table disk pending (item_at pending.entry.version disk.items)
 
-start_disk : (table : ℕ) (disk : StoreDisk) (agenda : Option (List StoreTask)) → (started owner table disk agenda).store.disk ≡ disk
-start_disk table disk (Some tasks) = refl
-start_disk table disk None = pending_disk table disk disk.pending
+start_disk : (number table : ℕ) (disk : StoreDisk) (agenda : Option (List StoreTask)) → (started number table disk agenda).store.disk ≡ disk
+start_disk number table disk (Some tasks) = refl
+start_disk number table disk None = pending_disk number table disk disk.pending
 
 -- a start, whatever it keeps
 module _ (Q : TableStore → TableStore → Type 0) (itself : (s : TableStore) → Q s s) (joins : (s t u : TableStore) → Q s t → Q t u → Q s u)
-    (starts : (table : ℕ) (disk : StoreDisk) (agenda : Option (List StoreTask)) → Q (at disk agenda) (started owner table disk agenda).store) where
+    (starts : (number table : ℕ) (disk : StoreDisk) (agenda : Option (List StoreTask)) → Q (at disk agenda) (started number table disk agenda).store) where
   start_goes : (w : World) (table : ℕ) → IsFrom Q w (table_starts table messages.Done w).world
   start_goes w table = go (hosted_at w table) refl
     where
@@ -145,11 +146,11 @@ module _ (Q : TableStore → TableStore → Type 0) (itself : (s : TableStore) �
       go (Some hosted) is = by_made hosted.made refl
         where
           again : IsFrom Q w (move_table table Start w).world
-          again = move_from Q itself Start (λ v t found. starts t found.store.disk found.store.agenda) w table
+          again = move_from Q itself Start (λ v t found. starts (owner_of v t) t found.store.disk found.store.agenda) w table
 
-          by_made : (b : Bool) → hosted.made ≡ b → IsFrom Q w (if b then move_table table Start w else after_table w table (record hosted { made = true }) (declared_late table)).world
+          by_made : (b : Bool) → hosted.made ≡ b → IsFrom Q w (if b then move_table table Start w else after_table w table (record hosted { made = true }) (declared_late (owner_of w table) table)).world
           by_made true made = again
-          by_made false made = after_from Q itself w table hosted (record hosted { made = true }) (declared_late table) is (λ e. absurd (let both : true ≡ false = sym e ∙ made in cc))
+          by_made false made = after_from Q itself w table hosted (record hosted { made = true }) (declared_late (owner_of w table) table) is (λ e. absurd (let both : true ≡ false = sym e ∙ made in cc))
 
   pub starts_go : (tables : List ℕ) (lucks : List Luck) (w : World) → IsFrom Q w (tables_start tables lucks w).world
   starts_go [] lucks w = from_itself Q itself w
@@ -173,5 +174,16 @@ module _ (Q : TableStore → TableStore → Type 0) (itself : (s : TableStore) �
 pub start_from : (w : World) (table : ℕ) → IsFrom SameDisk w (table_starts table messages.Done w).world
 start_from = start_goes SameDisk (λ s. refl) same_then start_disk
 
-pub starts_from : (tables : List ℕ) (lucks : List Luck) (w : World) → IsFrom SameDisk w (tables_start tables lucks w).world
+starts_from : (tables : List ℕ) (lucks : List Luck) (w : World) → IsFrom SameDisk w (tables_start tables lucks w).world
 starts_from = starts_go SameDisk (λ s. refl) same_then start_disk
+
+pub falls_from : (tables : List ℕ) (w : World) → IsFrom SameDisk w (tables_fall tables w).world
+falls_from [] w = from_itself SameDisk (λ s. refl) w
+falls_from (table ∷ tables) w =
+    let v = (table_falls table w).world in
+    from_then SameDisk SameDisk SameDisk same_then w v (tables_fall tables v).world (fall_from w table) (falls_from tables v)
+
+pub restart_from : (tables : List ℕ) (lucks : List Luck) (w : World) → IsFrom SameDisk w (restart_moves tables lucks w).world
+restart_from tables lucks w =
+    let v = (tables_fall tables w).world in
+    from_then SameDisk SameDisk SameDisk same_then w v (tables_start tables lucks v).world (falls_from tables w) (starts_from tables lucks v)

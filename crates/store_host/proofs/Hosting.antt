@@ -1,6 +1,6 @@
 -- A table behind a step of its node, and what it tells put behind what was told.
 use Rattle.std.proofs.Common.{◌≡◌, inl, inr, ℕ, ◌<◌, ◌++◌, length, map, Bool, true, false, cond, List, [], ◌∷◌, Option, Some, None, Result, Ok, Err, refl, sym, ◌∙◌, ap, subst, append-nil}
-use Rattle.std.specs.Prelude.{◌&&◌, filter, ◌==◌, nat_lt, ◌↔◌, IfErr, IsErrOf, if◌then◌else◌}
+use Rattle.std.specs.Prelude.{◌&&◌, filter, ◌==◌, nat_lt, ◌↔◌, OnOk, OnErr, IfErr, IsErrOf, if◌then◌else◌}
 use Rattle.std.proofs.lemmas.List.{map-append}
 use Rattle.disk_trait.specs.Calls.{DiskState}
 use Rattle.row_value.specs.declared.schema.Schema.{Schema}
@@ -17,6 +17,7 @@ use Rattle.step_tables.specs.StoreMoves.{StoreDisk, StoreTask, TableStore, Store
 use Rattle.step_tables.specs.StoreMoves.{takes, quiet, accepting, item_for, sending, responded, unaccepted, keeps_there, judged, decided, asked, version_of, version_at, taken, yours_in}
 use Rattle.step_tables.specs.Chunks.{is_spelled}
 use Rattle.store_node.specs.declared.node.TableNode.{TableNode}
+use Rattle.stab_base.specs.declared.node.Node.TheVariants as nodes
 use Rattle.store_node.specs.declared.node.StoreOut.{StoreOut}
 use Rattle.step_tables.specs.Travels.{send_of}
 use Rattle.store_node.specs.Due.{fact_of}
@@ -31,11 +32,14 @@ use Rattle.store_node.specs.declared.fault.NodeFault.{NodeFault}
 use Rattle.store_node.specs.declared.fault.NodeFault.TheVariants.{Busy, Disk as DiskFailed, Memory}
 use Rattle.store_node.specs.declared.showing.ShownRow.{ShownRow}
 use Rattle.store_node.specs.declared.showing.WholeRow.{WholeRow}
-use Rattle.store_node.specs.Node.{nothing_stored, own_faults, has_task}
-use Rattle.store_node.specs.Calls.{IsBehind, Starts, Stays, Shows, Gives, Delivers, IsAtWork, named, late, step_at}
-use Rattle.world_tables.specs.World.{Outbox, Packet, history_on, owner, the_store, packets_from, next_step, tasks_in, declared_late, scheme_in, chunk_in}
+use Rattle.disk_trait.specs.Fuse.{behind, inner_of}
+use Rattle.store_commit.specs.Standing.{RowsLeave}
+use Rattle.store_node.specs.Node.{nothing_stored, own_faults, has_task, HasBlankDisks, HasNoRows}
+use Rattle.store_node.specs.Calls.{IsBehind, Declares, Starts, Stays, Shows, Gives, Delivers, IsAtWork, named, late, step_at}
+use Rattle.world_tables.specs.World.{Outbox, Packet, history_on, packets_from, next_step, tasks_in, declared_late, scheme_in, chunk_in}
 use Rattle.world_tables.specs.World as world
 use Rattle.store_host.specs.declared.hosted.Hosted.{Hosted}
+use Rattle.store_host.specs.declared.hosted.TableOut.{TableOut}
 use Rattle.store_host.specs.Holds.{IsHosted, IsUpAt, behind_step, outs_in, outbox_of, says_something}
 use Rattle.store_host.specs.Steps.{IsTelling, HasTold, HasNodeCause, started_by, moved_at, new_table, outbox_at, IsBusy, HasTaken, HasNodeTakeCause, HasShown, HasGiven}
 
@@ -45,16 +49,16 @@ pub says_facts : (facts : List Fact) (packets : List Packet) → (length facts =
 says_facts [] packets some = absurd cc
 says_facts (fact ∷ facts) packets some = refl
 
-module _ {D : Type 0} (state : D → DiskState) (schema : Option Schema) (table : ℕ) (hosted : world.Hosted) where
-  pub node_of : (it : Hosted D) → IsHosted state schema table hosted it → IsNode state it.node
+module _ {D : Type 0} (state : D → DiskState) (store : ℕ) (schema : Option Schema) (table : ℕ) (hosted : world.Hosted) where
+  pub node_of : (it : Hosted D) → IsHosted state store schema table hosted it → IsNode state it.node
   node_of it h = (_, h.node)
 
-  pub telling : (s : StoreStep) (old new : Hosted D) → IsHosted state schema table hosted old → IsBehind state old.node new.node s
-      → (made : Bool) → new.node.is_declared ≡ made → new.history ≡ old.history → IsTelling state schema table (record hosted { made = made }) s new
+  pub telling : (s : StoreStep) (old new : Hosted D) → IsHosted state store schema table hosted old → IsBehind state old.node new.node s
+      → (made : Bool) → new.node.is_declared ≡ made → new.history ≡ old.history → IsTelling state store schema table (record hosted { made = made }) s new
   telling s old new h b made declared same = record {
     schema = h.schema ∙ ap Some (sym b.same.schema);
     number = b.same.table ∙ h.number;
-    store = b.same.store ∙ h.store;
+    owner = b.same.store ∙ h.owner;
     node = b.table;
     made = declared;
     history = same ∙ h.history;
@@ -63,12 +67,12 @@ module _ {D : Type 0} (state : D → DiskState) (schema : Option Schema) (table 
   }
 
   -- what a silent step tells is nothing
-  pub silent : (s : StoreStep) (it : Hosted D) (outs : List StoreOut) → IsTelling state schema table hosted s it → s.facts ≡ [] → s.sends ≡ [] → HasTold state schema table hosted s it outs outs
+  pub silent : (s : StoreStep) (it : Hosted D) (outs : List TableOut) → IsTelling state store schema table hosted s it → s.facts ≡ [] → s.sends ≡ [] → HasTold state store schema table hosted s it outs outs
   silent s it outs t facts sends = record {
     behind = record {
       schema = t.schema;
       number = t.number;
-      store = t.store;
+      owner = t.owner;
       node = t.node;
       made = t.made;
       history = t.history ∙ sym (ap (λ (l : List Fact). history_on hosted.history l) facts);
@@ -78,20 +82,20 @@ module _ {D : Type 0} (state : D → DiskState) (schema : Option Schema) (table 
     outs = sym (told_none facts sends ∙ append-nil (outs_in outs));
   }
     where
-      told_none : s.facts ≡ [] → s.sends ≡ [] → outs_in outs ++ filter says_something (outbox_at s ∷ []) ≡ outs_in outs ++ []
+      told_none : s.facts ≡ [] → s.sends ≡ [] → outs_in outs ++ filter says_something (outbox_at store s ∷ []) ≡ outs_in outs ++ []
       told_none f p =
-          ap (λ (l : List Fact). outs_in outs ++ filter says_something (record { facts = l; packets = packets_from the_store s.sends } ∷ [])) f
-          ∙ ap (λ (l : List Send). outs_in outs ++ filter says_something (record { facts = []; packets = packets_from the_store l } ∷ [])) p
+          ap (λ (l : List Fact). outs_in outs ++ filter says_something (record { facts = l; packets = packets_from (λ table. store) (nodes.Store store) s.sends } ∷ [])) f
+          ∙ ap (λ (l : List Send). outs_in outs ++ filter says_something (record { facts = []; packets = packets_from (λ table. store) (nodes.Store store) l } ∷ [])) p
 
   -- a node that has told all hands over what it told
-  pub tells : (s : StoreStep) (old new : Hosted D) → IsTelling state schema table hosted s old → ((t : TableStore) → IsTable state old.node t → IsTable state new.node t)
+  pub tells : (s : StoreStep) (old new : Hosted D) → IsTelling state store schema table hosted s old → ((t : TableStore) → IsTable state old.node t → IsTable state new.node t)
       → IsSame old.node new.node → new.node.is_declared ≡ old.node.is_declared → told_by new.node ≡ [] → sent_by new.node ≡ []
       → (facts : List Fact) → facts ≡ told_by old.node → new.history ≡ history_on old.history facts
-      → IsHosted state schema table (behind_step hosted s) new
+      → IsHosted state store schema table (behind_step hosted s) new
   tells s old new t kept same declared told sent facts is history = record {
     schema = t.schema ∙ ap Some (sym same.schema);
     number = same.table ∙ t.number;
-    store = same.store ∙ t.store;
+    owner = same.store ∙ t.owner;
     node = kept s.store t.node;
     made = declared ∙ t.made;
     history = history ∙ (ap (λ (l : List Fact). history_on old.history l) (is ∙ t.told) ∙ ap (λ (h : List Entry). history_on h s.facts) t.history);
@@ -99,14 +103,18 @@ module _ {D : Type 0} (state : D → DiskState) (schema : Option Schema) (table 
     sent = sent;
   }
 
-  pub outbox_is : (s : StoreStep) (old : Hosted D) (out : StoreOut) → IsTelling state schema table hosted s old → map fact_of out.facts ≡ told_by old.node
-      → map send_of out.messages ≡ sent_by old.node → outbox_of out ≡ outbox_at s
-  outbox_is s old out t facts sends = let f = facts ∙ t.told in let p = ap (λ (l : List Send). packets_from the_store l) (sends ∙ t.sent) in cc (f, p)
+  pub outbox_is : (s : StoreStep) (old : Hosted D) (number : ℕ) (out : StoreOut) → IsTelling state store schema table hosted s old → number ≡ old.node.store
+      → map fact_of out.facts ≡ told_by old.node → map send_of out.messages ≡ sent_by old.node → outbox_of (record { store = number; out = out }) ≡ outbox_at store s
+  outbox_is s old number out t is facts sends =
+      let f = facts ∙ t.told in
+      let n : number ≡ store = is ∙ t.owner in
+      let p = ap (λ (l : List Send). packets_from (λ table. number) (nodes.Store number) l) (sends ∙ t.sent) ∙ ap (λ (n : ℕ). packets_from (λ table. n) (nodes.Store n) s.sends) n in
+      cc (f, p)
 
-pub puts_out : (outs : List StoreOut) (out : StoreOut) → says_something (outbox_of out) ≡ true → outs_in (outs ++ out ∷ []) ≡ outs_in outs ++ filter says_something (outbox_of out ∷ [])
+pub puts_out : (outs : List TableOut) (out : TableOut) → says_something (outbox_of out) ≡ true → outs_in (outs ++ out ∷ []) ≡ outs_in outs ++ filter says_something (outbox_of out ∷ [])
 puts_out outs out says = map-append outbox_of outs (out ∷ []) ∙ sym (ap (λ (b : Bool). outs_in outs ++ cond b (outbox_of out ∷ []) []) says)
 
-pub leaves_out : (outs : List StoreOut) (out : StoreOut) → says_something (outbox_of out) ≡ false → outs_in outs ≡ outs_in outs ++ filter says_something (outbox_of out ∷ [])
+pub leaves_out : (outs : List TableOut) (out : TableOut) → says_something (outbox_of out) ≡ false → outs_in outs ≡ outs_in outs ++ filter says_something (outbox_of out ∷ [])
 leaves_out outs out says = sym (append-nil (outs_in outs)) ∙ sym (ap (λ (b : Bool). outs_in outs ++ cond b (outbox_of out ∷ []) []) says)
 
 -- ---- silent steps
@@ -118,16 +126,16 @@ crash_facts d (Some (task ∷ tasks)) messages.Done = (refl, refl)
 crash_facts d (Some (task ∷ tasks)) messages.FailedBefore = (refl, refl)
 crash_facts d (Some (task ∷ tasks)) messages.FailedAfter = (refl, refl)
 
-module _ {D : Type 0} (state : D → DiskState) (schema : Option Schema) (table : ℕ) where
+module _ {D : Type 0} (state : D → DiskState) (store : ℕ) (schema : Option Schema) (table : ℕ) where
   -- a node that is down stays as it is
-  pub down_stays : (disk : StoreDisk) (agenda : Option (List StoreTask)) (history : List Entry) (made : Bool) (it : Hosted D) (outs : List StoreOut)
-      → IsHosted state schema table (record { store = record { disk = disk; agenda = agenda }; history = history; made = made }) it → it.node.is_up ≡ false
-      → HasTold state schema table (record { store = record { disk = disk; agenda = agenda }; history = history; made = made }) (worked disk agenda messages.Done) it outs outs
-      × ((luck : Luck) → HasTold state schema table (record { store = record { disk = disk; agenda = agenda }; history = history; made = made }) (crashed disk agenda luck) it outs outs)
+  pub down_stays : (disk : StoreDisk) (agenda : Option (List StoreTask)) (history : List Entry) (made : Bool) (it : Hosted D) (outs : List TableOut)
+      → IsHosted state store schema table (record { store = record { disk = disk; agenda = agenda }; history = history; made = made }) it → it.node.is_up ≡ false
+      → HasTold state store schema table (record { store = record { disk = disk; agenda = agenda }; history = history; made = made }) (worked disk agenda messages.Done) it outs outs
+      × ((luck : Luck) → HasTold state store schema table (record { store = record { disk = disk; agenda = agenda }; history = history; made = made }) (crashed disk agenda luck) it outs outs)
       × (steps.Idle ≡ next_step (tasks_in agenda))
   down_stays disk (Some tasks) history made it outs h down = let no = h.node.at.0 in absurd cc
   down_stays disk None history made it outs h down =
-      let stays : IsHosted state schema table (record { store = record { disk = disk; agenda = None }; history = history; made = made }) it = h in
+      let stays : IsHosted state store schema table (record { store = record { disk = disk; agenda = None }; history = history; made = made }) it = h in
       (record { behind = stays; outs = sym (append-nil (outs_in outs)) }, (λ luck. record { behind = stays; outs = sym (append-nil (outs_in outs)) }), refl)
 
   pub next_is : (agenda : Option (List StoreTask)) → named agenda ≡ next_step (tasks_in agenda)
@@ -142,39 +150,39 @@ module _ {D : Type 0} (state : D → DiskState) (schema : Option Schema) (table 
   up_declared node disk None t up = let no = t.at.0 in absurd cc
   up_declared node disk (Some tasks) t up = t.at.1.declared
 
-  stands_at : (old new : TableNode D) (s : TableStore) → IsBehind state old new (step_at old s Start) → old.store ≡ owner → old.table ≡ table
-      → IsBehind state old new (started owner table s.disk s.agenda)
-  stands_at old new s b store number = subst (λ (t : ℕ). IsBehind state old new (started owner t s.disk s.agenda)) number
-      (subst (λ (n : ℕ). IsBehind state old new (started n old.table s.disk s.agenda)) store b)
+  stands_at : (old new : TableNode D) (s : TableStore) → IsBehind state old new (step_at old s Start) → old.store ≡ store → old.table ≡ table
+      → IsBehind state old new (started store table s.disk s.agenda)
+  stands_at old new s b kept number = subst (λ (t : ℕ). IsBehind state old new (started store t s.disk s.agenda)) number
+      (subst (λ (n : ℕ). IsBehind state old new (started n old.table s.disk s.agenda)) kept b)
 
-  late_at : (old new : TableNode D) → IsBehind state old new (late old) → old.store ≡ owner → old.table ≡ table → IsBehind state old new (declared_late table)
-  late_at old new b store number =
-      subst (λ (t : ℕ). IsBehind state old new (record { store = record { disk = nothing_stored; agenda = Some [] }; answer = facts.Done; facts = facts.StoreRecovered owner t ∷ []; sends = [] }))
+  late_at : (old new : TableNode D) → IsBehind state old new (late old) → old.store ≡ store → old.table ≡ table → IsBehind state old new (declared_late store table)
+  late_at old new b kept number =
+      subst (λ (t : ℕ). IsBehind state old new (record { store = record { disk = nothing_stored; agenda = Some [] }; answer = facts.Done; facts = facts.StoreRecovered store t ∷ []; sends = [] }))
       number
       (subst (λ (n : ℕ). IsBehind state old new
-      (record { store = record { disk = nothing_stored; agenda = Some [] }; answer = facts.Done; facts = facts.StoreRecovered n old.table ∷ []; sends = [] })) store b)
+      (record { store = record { disk = nothing_stored; agenda = Some [] }; answer = facts.Done; facts = facts.StoreRecovered n old.table ∷ []; sends = [] })) kept b)
 
   pub starting : (images : D → ℕ → List ℕ → Type 0) (s : TableStore) (history : List Entry) (made : Bool) (old : Hosted D) (node : TableNode D)
-      → IsHosted state schema table (record { store = s; history = history; made = made }) old
+      → IsHosted state store schema table (record { store = s; history = history; made = made }) old
       → Starts state images s old.node node (Ok tt) → node.is_up ≡ true
-      → IsTelling state schema table (record { store = s; history = history; made = true }) (started_by schema table (record { store = s; history = history; made = made }) made)
+      → IsTelling state store schema table (record { store = s; history = history; made = true }) (started_by store schema table (record { store = s; history = history; made = made }) made)
       (record { node = node; history = old.history })
   starting images s history true old node h k up =
-      let b = stands_at old.node node s (k.started h.made) h.store h.number in
-      telling state schema table (record { store = s; history = history; made = true }) (started owner table s.disk s.agenda) old (record { node = node; history = old.history }) h b true
-      (up_declared node (started owner table s.disk s.agenda).store.disk (started owner table s.disk s.agenda).store.agenda b.table up) refl
+      let b = stands_at old.node node s (k.started h.made) h.owner h.number in
+      telling state store schema table (record { store = s; history = history; made = true }) (started store table s.disk s.agenda) old (record { node = node; history = old.history }) h b true
+      (up_declared node (started store table s.disk s.agenda).store.disk (started store table s.disk s.agenda).store.agenda b.table up) refl
   starting images s history false old node h k up =
-      let b = late_at old.node node (k.declared h.made) h.store h.number in
-      telling state schema table (record { store = s; history = history; made = false }) (declared_late table) old (record { node = node; history = old.history }) h b true
+      let b = late_at old.node node (k.declared h.made) h.owner h.number in
+      telling state store schema table (record { store = s; history = history; made = false }) (declared_late store table) old (record { node = node; history = old.history }) h b true
       (up_declared node nothing_stored (Some []) b.table up) refl
 
-  pub not_started : (hosted : world.Hosted) (old : Hosted D) (node : TableNode D) → IsHosted state schema table hosted old → Stays state old.node node hosted.store
+  pub not_started : (hosted : world.Hosted) (old : Hosted D) (node : TableNode D) → IsHosted state store schema table hosted old → Stays state old.node node hosted.store
       → node.is_declared ≡ old.node.is_declared
-      → IsHosted state schema table hosted (record { node = node; history = old.history })
+      → IsHosted state store schema table hosted (record { node = node; history = old.history })
   not_started hosted old node h k declared = record {
     schema = h.schema ∙ ap Some (sym k.same.schema);
     number = k.same.table ∙ h.number;
-    store = k.same.store ∙ h.store;
+    owner = k.same.store ∙ h.owner;
     node = k.table;
     made = declared ∙ h.made;
     history = h.history;
@@ -184,27 +192,40 @@ module _ {D : Type 0} (state : D → DiskState) (schema : Option Schema) (table 
 
 -- ---- a table that is made
 
-module _ {D : Type 0} (state : D → DiskState) (schema : Option Schema) (table : ℕ) (old : Hosted D) (h : IsHosted state schema table (new_table false false) old) where
-  pub made_up : (node : TableNode D) → Stays state old.node node (record { disk = nothing_stored; agenda = Some [] }) → node.is_up ≡ true
-      → IsHosted state schema table (new_table true true) (record { node = node; history = old.history })
+module _ {D : Type 0} (state : D → DiskState) (store : ℕ) (schema : Option Schema) (table : ℕ) (old : Hosted D) (h : IsHosted state store schema table (new_table false) old) where
+  made_up : (node : TableNode D) → Stays state old.node node (record { disk = nothing_stored; agenda = Some [] }) → node.is_up ≡ true
+      → IsHosted state store schema table (new_table true) (record { node = node; history = old.history })
   made_up node k up = record {
     schema = h.schema ∙ ap Some (sym k.same.schema);
     number = k.same.table ∙ h.number;
-    store = k.same.store ∙ h.store;
+    owner = k.same.store ∙ h.owner;
     node = k.table;
-    made = up_declared state schema table node nothing_stored (Some []) k.table up;
+    made = up_declared state store schema table node nothing_stored (Some []) k.table up;
     history = h.history;
     told = k.told ∙ h.told;
     sent = k.sent ∙ h.sent;
   }
 
-  pub made_down : (mid node : TableNode D) → Stays state old.node mid (record { disk = nothing_stored; agenda = Some [] }) → mid.is_up ≡ true
-      → IsBehind state mid node (crashed nothing_stored (Some []) messages.FailedBefore) → node.is_declared ≡ mid.is_declared → IsHosted state schema table (new_table true false) (record { node = node; history = old.history })
-  made_down mid node k up b declared =
-      let before = made_up mid k up in
-      (silent state schema table (new_table true true) (crashed nothing_stored (Some []) messages.FailedBefore) (record { node = node; history = old.history }) []
-      (telling state schema table (new_table true true) (crashed nothing_stored (Some []) messages.FailedBefore) (record { node = mid; history = old.history })
-      (record { node = node; history = old.history }) before b true (declared ∙ before.made) refl) refl refl).behind
+  module _ (images : D → ℕ → List ℕ → Type 0) (node : TableNode D) where
+    pub made_here : (r : Result (Unit {0}) NodeFault) → Declares state images (new_table false).store old.node node r → OnOk r (node.is_up ≡ true)
+        → OnOk r (IsHosted state store schema table (new_table true) (record { node = node; history = old.history }))
+    made_here (Ok x) k up = made_up node k.declared up
+    made_here (Err e) k up = tt
+
+    pub not_made : (r : Result (Unit {0}) NodeFault) → Declares state images (new_table false).store old.node node r → OnErr r (node.is_declared ≡ old.node.is_declared)
+        → OnErr r (IsHosted state store schema table (new_table false) (record { node = node; history = old.history }))
+    not_made (Ok x) k kept = tt
+    not_made (Err e) k kept = not_started state store schema table (new_table false) old node h k.refused kept
+
+module _ {D : Type 0} (state : D → DiskState) (images : D → ℕ → List ℕ → Type 0) (s : TableStore) (old node : TableNode D) where
+  pub made_blank : (r : Result (Unit {0}) NodeFault) → Declares state images s old node r → HasBlankDisks state old
+      → OnOk r (RowsLeave (behind state) (λ f. images (inner_of f)) old.devs node.devs (HasNoRows old.schema))
+  made_blank (Ok x) k blank = (k.none blank).rows_left
+  made_blank (Err e) k blank = tt
+
+  pub made_schema : (r : Result (Unit {0}) NodeFault) → Declares state images s old node r → OnOk r (node.schema ≡ old.schema)
+  made_schema (Ok x) k = k.declared.same.schema
+  made_schema (Err e) k = tt
 
 -- ---- causes
 
@@ -287,17 +308,17 @@ module _ (g : Scheme) (size table : ℕ) (d : StoreDisk) (from : Node) where
   take_facts (Some []) (messages.TornRowRequest q) = refl
   take_facts (Some []) (messages.TornRowResponse q) = refl
 
-module _ {D : Type 0} (state : D → DiskState) (images : D → ℕ → List ℕ → Type 0) (schema : Option Schema) (table : ℕ) where
+module _ {D : Type 0} (state : D → DiskState) (images : D → ℕ → List ℕ → Type 0) (store : ℕ) (schema : Option Schema) (table : ℕ) where
   abbrev at : StoreDisk → Option (List StoreTask) → List Entry → Bool → world.Hosted
   at disk agenda history made = record { store = record { disk = disk; agenda = agenda }; history = history; made = made }
 
   down_here : (disk : StoreDisk) (agenda : Option (List StoreTask)) (history : List Entry) (made : Bool) (old : Hosted D) (node : TableNode D)
-      → IsHosted state schema table (at disk agenda history made) old → Stays state old.node node (record { disk = disk; agenda = None }) → node.is_declared ≡ old.node.is_declared
-      → IsHosted state schema table (at disk None history made) (record { node = node; history = old.history })
+      → IsHosted state store schema table (at disk agenda history made) old → Stays state old.node node (record { disk = disk; agenda = None }) → node.is_declared ≡ old.node.is_declared
+      → IsHosted state store schema table (at disk None history made) (record { node = node; history = old.history })
   down_here disk agenda history made old node h k declared = record {
     schema = h.schema ∙ ap Some (sym k.same.schema);
     number = k.same.table ∙ h.number;
-    store = k.same.store ∙ h.store;
+    owner = k.same.store ∙ h.owner;
     node = k.table;
     made = declared ∙ h.made;
     history = h.history;
@@ -307,35 +328,35 @@ module _ {D : Type 0} (state : D → DiskState) (images : D → ℕ → List ℕ
 
   -- a table of which a disk has failed is down
   pub failed_down : (disk : StoreDisk) (agenda : Option (List StoreTask)) (history : List Entry) (made : Bool) (old : Hosted D) (node : TableNode D) → IsUpAt agenda
-      → IsHosted state schema table (at disk agenda history made) old → Stays state old.node node (record { disk = disk; agenda = None }) → node.is_declared ≡ old.node.is_declared
-      → HasTold state schema table (at disk agenda history made) (crashed disk agenda messages.FailedBefore) (record { node = node; history = old.history }) [] []
+      → IsHosted state store schema table (at disk agenda history made) old → Stays state old.node node (record { disk = disk; agenda = None }) → node.is_declared ≡ old.node.is_declared
+      → HasTold state store schema table (at disk agenda history made) (crashed disk agenda messages.FailedBefore) (record { node = node; history = old.history }) [] []
   failed_down disk None history made old node up h k declared = absurd (let e = up.1 in cc)
   failed_down disk (Some []) history made old node up h k declared = record { behind = down_here disk (Some []) history made old node h k declared; outs = refl }
   failed_down disk (Some (task ∷ tasks)) history made old node up h k declared = record { behind = down_here disk (Some (task ∷ tasks)) history made old node h k declared; outs = refl }
 
-  module _ (hosted : world.Hosted) (old : Hosted D) (h : IsHosted state schema table hosted old) (up : old.node.is_up ≡ true) where
+  module _ (hosted : world.Hosted) (old : Hosted D) (h : IsHosted state store schema table hosted old) (up : old.node.is_up ≡ true) where
     is_up : IsUpAt hosted.store.agenda
     is_up = node_up state old.node hosted.store.disk hosted.store.agenda h.node up
 
     pub shows_hosted : (row : List ℕ) (node : TableNode D) (r : Result (Option ShownRow) NodeFault) → Shows state images hosted.store row old.node node r → node.is_declared ≡ old.node.is_declared
-        → HasShown state schema table hosted row (record { node = node; history = old.history }) r
+        → HasShown state store schema table hosted row (record { node = node; history = old.history }) r
     shows_hosted row node r k declared = record {
       shown = k.shown;
-      stays = λ no. not_started state schema table hosted old node h (k.stays no) declared;
+      stays = λ no. not_started state store schema table hosted old node h (k.stays no) declared;
       fallen = λ is. failed_down hosted.store.disk hosted.store.agenda hosted.history hosted.made old node is_up h (k.fallen is) declared;
     }
 
     pub gives_hosted : (row : List ℕ) (node : TableNode D) (r : Result (Option WholeRow) NodeFault) → Gives state images hosted.store row old.node node r → node.is_declared ≡ old.node.is_declared
-        → HasGiven state schema table hosted row (record { node = node; history = old.history }) r
+        → HasGiven state store schema table hosted row (record { node = node; history = old.history }) r
     gives_hosted row node r k declared = record {
       given = k.given;
-      stays = λ no. not_started state schema table hosted old node h (k.stays no) declared;
+      stays = λ no. not_started state store schema table hosted old node h (k.stays no) declared;
       fallen = λ is. failed_down hosted.store.disk hosted.store.agenda hosted.history hosted.made old node is_up h (k.fallen is) declared;
     }
 
     module _ (from : Node) (message : Message) where
       -- want of memory, where nothing is to be done
-      pub short_taken : (outs : List StoreOut) → has_task hosted.store.agenda ≡ false → (e : NodeFault) → e ≡ Memory → HasTaken state schema table hosted from message old old outs outs (Err e)
+      pub short_taken : (outs : List TableOut) → has_task hosted.store.agenda ≡ false → (e : NodeFault) → e ≡ Memory → HasTaken state store schema table hosted from message old old outs outs (Err e)
       short_taken outs idle e is = record {
         taken = λ _. tt;
         dropped = λ _. tt;
@@ -351,8 +372,8 @@ module _ {D : Type 0} (state : D → DiskState) (images : D → ℕ → List ℕ
           none = idle_is hosted.store.agenda is_up idle
 
       -- a message that the node refused
-      pub badly_taken : (outs : List StoreOut) (node : TableNode D) (e : NodeFault) → Delivers state images hosted.store from message old.node node (Err e) → node.is_declared ≡ old.node.is_declared
-          → HasTaken state schema table hosted from message old (record { node = node; history = old.history }) outs outs (Err e)
+      pub badly_taken : (outs : List TableOut) (node : TableNode D) (e : NodeFault) → Delivers state images hosted.store from message old.node node (Err e) → node.is_declared ≡ old.node.is_declared
+          → HasTaken state store schema table hosted from message old (record { node = node; history = old.history }) outs outs (Err e)
       badly_taken outs node e k declared = record {
         taken = λ _. tt;
         dropped = λ _. tt;
@@ -360,13 +381,13 @@ module _ {D : Type 0} (state : D → DiskState) (images : D → ℕ → List ℕ
         busy = k.busy;
         given = λ _ _. tt;
         spent = λ last s. let x = k.spent last s in (x.2, x.1, x.3);
-        refused = λ no. (not_started state schema table hosted old node h (k.refused no) declared, refl);
+        refused = λ no. (not_started state store schema table hosted old node h (k.refused no) declared, refl);
         fallen = λ f. (failed_down hosted.store.disk hosted.store.agenda hosted.history hosted.made old node is_up h (k.fallen f) declared, refl);
       }
 
       -- a busy node refuses each
-      pub busy_taken : (outs : List StoreOut) (node : TableNode D) (r : Result (Unit {0}) NodeFault) → has_task hosted.store.agenda ≡ true → Delivers state images hosted.store from message old.node node r
-          → node.is_declared ≡ old.node.is_declared → HasTaken state schema table hosted from message old (record { node = node; history = old.history }) outs outs r
+      pub busy_taken : (outs : List TableOut) (node : TableNode D) (r : Result (Unit {0}) NodeFault) → has_task hosted.store.agenda ≡ true → Delivers state images hosted.store from message old.node node r
+          → node.is_declared ≡ old.node.is_declared → HasTaken state store schema table hosted from message old (record { node = node; history = old.history }) outs outs r
       busy_taken outs node (Err e) busy k declared = badly_taken outs node e k declared
       busy_taken outs node (Ok x) busy k declared = absurd (go hosted.store.agenda busy k.busy)
         where
@@ -375,47 +396,48 @@ module _ {D : Type 0} (state : D → DiskState) (images : D → ℕ → List ℕ
           go (Some []) some b = cc
           go (Some (task ∷ tasks)) some b = let e = (b (version_at hosted.store.disk task.change)).1 refl in cc
 
-      step_is : step_at old.node hosted.store (Take from (message_of message)) ≡ moved_at schema table hosted (Take from (message_of message))
+      step_is : step_at old.node hosted.store (Take from (message_of message)) ≡ moved_at store schema table hosted (Take from (message_of message))
       step_is =
           let move = Take from (message_of message) in
-          ap (λ (n : ℕ). store_step n old.node.schema.scheme old.node.schema.chunk old.node.table hosted.store move) h.store
-          ∙ (ap (λ (t : ℕ). store_step owner old.node.schema.scheme old.node.schema.chunk t hosted.store move) h.number
-          ∙ ap (λ (o : Option Schema). store_step owner (scheme_in o) (chunk_in o) table hosted.store move) (sym h.schema))
+          ap (λ (n : ℕ). store_step n old.node.schema.scheme old.node.schema.chunk old.node.table hosted.store move) h.owner
+          ∙ (ap (λ (t : ℕ). store_step store old.node.schema.scheme old.node.schema.chunk t hosted.store move) h.number
+          ∙ ap (λ (o : Option Schema). store_step store (scheme_in o) (chunk_in o) table hosted.store move) (sym h.schema))
 
-      silent_out : (out : StoreOut) → map fact_of out.facts ≡ [] → map send_of out.messages ≡ [] → says_something (outbox_of out) ≡ false
-      silent_out out facts sends =
-          ap (λ (l : List Fact). says_something (record { facts = l; packets = packets_from the_store (map send_of out.messages) })) facts
-          ∙ ap (λ (l : List Send). says_something (record { facts = []; packets = packets_from the_store l })) sends
+      silent_out : (it : TableOut) → map fact_of it.out.facts ≡ [] → map send_of it.out.messages ≡ [] → says_something (outbox_of it) ≡ false
+      silent_out it facts sends =
+          ap (λ (l : List Fact). says_something (record { facts = l; packets = packets_from (λ table. it.store) (nodes.Store it.store) (map send_of it.out.messages) })) facts
+          ∙ ap (λ (l : List Send). says_something (record { facts = []; packets = packets_from (λ table. it.store) (nodes.Store it.store) l })) sends
 
       -- a message that the node took or dropped
-      pub well_taken : (mid new : TableNode D) (out : StoreOut) (before after : List StoreOut) → Delivers state images hosted.store from message old.node mid (Ok tt) → mid.is_declared ≡ old.node.is_declared
+      pub well_taken : (mid new : TableNode D) (number : ℕ) (out : StoreOut) (before after : List TableOut) → Delivers state images hosted.store from message old.node mid (Ok tt) → mid.is_declared ≡ old.node.is_declared
           → map send_of out.messages ≡ sent_by mid → map fact_of out.facts ≡ told_by mid → told_by new ≡ [] → sent_by new ≡ [] → ((s : TableStore) → IsTable state mid s → IsTable state new s) → IsSame mid new
-          → new.is_declared ≡ mid.is_declared → outs_in after ≡ outs_in before ++ filter says_something (outbox_of out ∷ []) → (says_something (outbox_of out) ≡ false → after ≡ before)
-          → HasTaken state schema table hosted from message old (record { node = new; history = old.history }) before after (Ok tt)
-      well_taken mid new out before after k declared sends facts told sent kept same still put silent = record {
+          → new.is_declared ≡ mid.is_declared → number ≡ mid.store → outs_in after ≡ outs_in before ++ filter says_something (outbox_of (record { store = number; out = out }) ∷ [])
+          → (says_something (outbox_of (record { store = number; out = out })) ≡ false → after ≡ before)
+          → HasTaken state store schema table hosted from message old (record { node = new; history = old.history }) before after (Ok tt)
+      well_taken mid new number out before after k declared sends facts told sent kept same still number_is put silent = record {
         taken = λ is.
-            let s = moved_at schema table hosted (Take from (message_of message)) in
+            let s = moved_at store schema table hosted (Take from (message_of message)) in
             let behind : IsBehind state old.node mid s = subst (λ (x : StoreStep). IsBehind state old.node mid x) step_is (k.taken is) in
-            let t : IsTelling state schema table hosted s (record { node = mid; history = old.history }) =
-            telling state schema table hosted s old (record { node = mid; history = old.history }) h behind hosted.made (declared ∙ h.made) refl in
+            let t : IsTelling state store schema table hosted s (record { node = mid; history = old.history }) =
+            telling state store schema table hosted s old (record { node = mid; history = old.history }) h behind hosted.made (declared ∙ h.made) refl in
             let none : s.facts ≡ [] = take_facts (scheme_in schema) (chunk_in schema) table hosted.store.disk from hosted.store.agenda (message_of message) in
             record {
-              behind = tells state schema table hosted s (record { node = mid; history = old.history }) (record { node = new; history = old.history }) t kept same still told sent [] (sym (t.told ∙ none)) refl;
-              outs = put ∙ ap (λ (o : Outbox). outs_in before ++ filter says_something (o ∷ [])) (outbox_is state schema table hosted s (record { node = mid; history = old.history }) out t facts sends);
+              behind = tells state store schema table hosted s (record { node = mid; history = old.history }) (record { node = new; history = old.history }) t kept same still told sent [] (sym (t.told ∙ none)) refl;
+              outs = put ∙ ap (λ (o : Outbox). outs_in before ++ filter says_something (o ∷ [])) (outbox_is state store schema table hosted s (record { node = mid; history = old.history }) number out t number_is facts sends);
             };
         dropped = λ no.
             let x = k.dropped no in (
               record {
                 schema = h.schema ∙ ap Some (sym x.same.schema ∙ sym same.schema);
                 number = same.table ∙ (x.same.table ∙ h.number);
-                store = same.store ∙ (x.same.store ∙ h.store);
+                owner = same.store ∙ (x.same.store ∙ h.owner);
                 node = kept hosted.store x.table;
                 made = still ∙ (declared ∙ h.made);
                 history = h.history;
                 told = told;
                 sent = sent;
               },
-              silent (silent_out out (facts ∙ (x.told ∙ h.told)) (sends ∙ (x.sent ∙ h.sent))),
+              silent (silent_out (record { store = number; out = out }) (facts ∙ (x.told ∙ h.told)) (sends ∙ (x.sent ∙ h.sent))),
             );
         idle = idle_by hosted.store.disk hosted.store.agenda (Ok tt) is_up k.busy;
         busy = k.busy;

@@ -4,12 +4,11 @@ use Rattle.std.specs.Ordering.{nat_cmp}
 use Rattle.std.specs.BTreeMap.{is_at, WritesThrough}
 use Rattle.std.specs.BTreeMap as tree
 use Rattle.std.specs.Map.{lookup}
-use Rattle.std.specs.Prelude.{not, if◌then◌else◌}
+use Rattle.std.specs.Prelude.{if◌then◌else◌}
 use Rattle.disk_trait.specs.Image.{IsImage}
 use Rattle.disk_trait.specs.Calls.{DiskState}
 use Rattle.disk_trait.specs.Fuse.{behind, inner_of}
 use Rattle.disk_trait.specs.declared.fuse.FuseDisk.{FuseDisk}
-use Rattle.stab_base.specs.declared.node.Node.{Node}
 use Rattle.row_value.specs.declared.schema.Schema.{Schema}
 use Rattle.row_store.specs.Data.{TableData}
 use Rattle.store_commit.specs.declared.devs.TableDevs.{TableDevs}
@@ -17,16 +16,14 @@ use Rattle.store_commit.specs.Standing.{RowsLeave}
 use Rattle.step_tables.specs.StoreMoves.{StoreDisk, StoreTask, TableStore}
 use Rattle.device_laws.specs.Stands.{HasRows}
 use Rattle.store_commit.proofs.Moments.{rows_weaker, rows_then}
-use Rattle.store_node.specs.declared.node.StoreOut.{StoreOut}
 use Rattle.store_node.specs.declared.node.TableNode.{TableNode}
 use Rattle.store_node.specs.Node.{LeavesRows, behind_next}
 use Rattle.store_node.proofs.Working.{node_rows}
-use Rattle.world_tables.specs.World.{World, schema_at, hosted_at, tasks_in, has_node, the_store}
+use Rattle.world_tables.specs.World.{World, owner_of, schema_at, hosted_at, tasks_in}
 use Rattle.world_tables.specs.World as world
 use Rattle.store_host.specs.declared.hosted.Hosted.{Hosted}
-use Rattle.store_host.specs.declared.host.StoreHost.{StoreHost}
 use Rattle.world_tables.specs.Passed.{after_tasks}
-use Rattle.store_host.specs.Holds.{IsHosted, HostedThere, HoldsTables, HoldsParts, HoldsStore, LeftBy, AreLeft, AreStill}
+use Rattle.store_host.specs.Holds.{IsHosted, HostedThere, HoldsTables, LeftBy, AreLeft, AreStill}
 use Rattle.store_host.proofs.Maps.{found, at_same}
 use Rattle.store_host.proofs.Moving.{some_there}
 use Rattle.store_host.proofs.Froms.{IsFrom, SameDisk, GoesOn}
@@ -75,8 +72,8 @@ module _ {D : Type 0} (state : D → DiskState) (images : D → ℕ → List ℕ
 
   -- ---- one table
 
-  module _ (only_now : (disk : FuseDisk D) (image : List ℕ) → images (inner_of disk) (behind state disk).moment image → IsImage (behind state disk).pending image) (w : World) (numbers : List ℕ)
-      (old : tree.BTreeMap ℕ (Hosted D)) (h : HoldsTables state w numbers old) (R : world.Hosted → Schema → TableData → Type 0)
+  module _ (only_now : (disk : FuseDisk D) (image : List ℕ) → images (inner_of disk) (behind state disk).moment image → IsImage (behind state disk).pending image) (w : World)
+      (old : tree.BTreeMap ℕ (Hosted D)) (h : HoldsTables state w old) (R : world.Hosted → Schema → TableData → Type 0)
       (now : (hosted : world.Hosted) (schema : Schema) (held : TableData) → HasRows schema held hosted.store.disk → R hosted schema held) where
     same_hosted : (o : Option world.Hosted) (a b : world.Hosted) → o ≡ Some a → o ≡ Some b → a ≡ b
     same_hosted o a b there here = some_same a b (sym there ∙ here)
@@ -84,7 +81,7 @@ module _ {D : Type 0} (state : D → DiskState) (images : D → ℕ → List ℕ
     kept_table : (q : ℕ) (hosted : world.Hosted) (before : Hosted D) → hosted_at w q ≡ Some hosted → hosted.made ≡ true → tree.get nat_cmp old q ≡ Some before
         → RowsLeave st im before.node.devs before.node.devs (R hosted before.node.schema)
     kept_table q hosted before at made from =
-        let f = found state w numbers old q before h (sym from) in
+        let f = found state w old q before h (sym from) in
         let same = same_hosted (hosted_at w q) f.0 hosted f.1 at in
         let declared : before.node.is_declared ≡ true = f.2.made ∙ (ap (λ (x : world.Hosted). x.made) same ∙ made) in
         rows_weaker st im before.node.devs before.node.devs (λ held. HasRows before.node.schema held f.0.store.disk ⊎ HasRows before.node.schema held f.0.store.disk) (R hosted before.node.schema)
@@ -110,12 +107,12 @@ module _ {D : Type 0} (state : D → DiskState) (images : D → ℕ → List ℕ
           let same : before ≡ after = some_same before after (sym from ∙ (sym (new_at q false is) ∙ to)) in
           subst (λ (x : Hosted D). RowsLeave st im before.node.devs x.node.devs (R hosted before.node.schema)) same (kept_table q hosted before at made from)
 
-      module _ (moved : (hosted : world.Hosted) → IsHosted state (schema_at w table) table hosted was → hosted.made ≡ true
+      module _ (moved : (hosted : world.Hosted) → IsHosted state (owner_of w table) (schema_at w table) table hosted was → hosted.made ≡ true
           → RowsLeave st im was.node.devs it.node.devs (R hosted was.node.schema)) where
         -- this table
         here_left : (hosted : world.Hosted) → hosted_at w table ≡ Some hosted → hosted.made ≡ true → RowsLeave st im was.node.devs it.node.devs (R hosted was.node.schema)
         here_left hosted at made =
-            let f = found state w numbers old table was h there in
+            let f = found state w old table was h there in
             let same = same_hosted (hosted_at w table) f.0 hosted f.1 at in
             subst (λ (x : world.Hosted). RowsLeave st im was.node.devs it.node.devs (R x was.node.schema)) same (moved f.0 f.2 (ap (λ (x : world.Hosted). x.made) same ∙ made))
 
@@ -150,10 +147,10 @@ module _ {D : Type 0} (state : D → DiskState) (images : D → ℕ → List ℕ
       (SomeOn hosted was.node.schema) run
       (λ held x. ⊎_elim (λ y. (0, y)) (λ y. (1, subst (λ (disk : StoreDisk). HasRows was.node.schema held disk) (next_after hosted.store.disk hosted.store.agenda) y)) x)
 
-  module _ (only_now : (disk : FuseDisk D) (image : List ℕ) → images (inner_of disk) (behind state disk).moment image → IsImage (behind state disk).pending image) (w : World) (numbers : List ℕ)
-      (old : tree.BTreeMap ℕ (Hosted D)) (h : HoldsTables state w numbers old) where
+  module _ (only_now : (disk : FuseDisk D) (image : List ℕ) → images (inner_of disk) (behind state disk).moment image → IsImage (behind state disk).pending image) (w : World)
+      (old : tree.BTreeMap ℕ (Hosted D)) (h : HoldsTables state w old) where
     pub none_still : AreStill state images w old old
-    none_still = record { rows = nothing_left only_now w numbers old h AsItWas (λ hosted schema held x. x) }
+    none_still = record { rows = nothing_left only_now w old h AsItWas (λ hosted schema held x. x) }
 
     -- a table that is added leaves the others as they are
     module _ (added : tree.BTreeMap ℕ (Hosted D)) (table : ℕ) (it : Hosted D) (absent : tree.get nat_cmp old table ≡ None)
@@ -182,28 +179,29 @@ module _ {D : Type 0} (state : D → DiskState) (images : D → ℕ → List ℕ
       }
 
     module _ (new : tree.BTreeMap ℕ (Hosted D)) (table : ℕ) (it was : Hosted D) (there : Some was ≡ tree.get nat_cmp old table) (wrote : WritesThrough nat_cmp (nat_cmp table) old it new) where
-      pub still_at : ((hosted : world.Hosted) → IsHosted state (schema_at w table) table hosted was → hosted.made ≡ true → LeavesRows state images was.node it.node hosted.store.disk hosted.store.disk)
+      pub still_at : ((hosted : world.Hosted) → IsHosted state (owner_of w table) (schema_at w table) table hosted was → hosted.made ≡ true → LeavesRows state images was.node it.node hosted.store.disk hosted.store.disk)
           → AreStill state images w old new
       still_at moved = record {
-        rows = table_left only_now w numbers old h AsItWas (λ hosted schema held x. x) new table it was there wrote
+        rows = table_left only_now w old h AsItWas (λ hosted schema held x. x) new table it was there wrote
             (λ hosted k made. was_left was it hosted (moved hosted k made));
       }
 
-      pub next_at : ((hosted : world.Hosted) → IsHosted state (schema_at w table) table hosted was → hosted.made ≡ true
+      pub next_at : ((hosted : world.Hosted) → IsHosted state (owner_of w table) (schema_at w table) table hosted was → hosted.made ≡ true
           → LeavesRows state images was.node it.node hosted.store.disk (behind_next hosted.store.disk hosted.store.agenda)) → AreLeft state images w old new
       next_at moved = record {
-        rows = table_left only_now w numbers old h SomeOn (λ hosted schema held x. (0, x)) new table it was there wrote
+        rows = table_left only_now w old h SomeOn (λ hosted schema held x. (0, x)) new table it was there wrote
             (λ hosted k made. next_left was it hosted (moved hosted k made));
       }
 
   -- ---- moves one after the other
 
-  pub between : (declared : Option Schema) (q : ℕ) (later : world.Hosted) (o : Option (Hosted D)) → HostedThere state declared q (Some later) o → (it : Hosted D) × (o ≡ Some it) × IsHosted state declared q later it
-  between declared q later None h = absurd h
-  between declared q later (Some it) h = (it, refl, h)
+  pub between : (store : ℕ) (declared : Option Schema) (q : ℕ) (later : world.Hosted) (o : Option (Hosted D)) → HostedThere state store declared q (Some later) o
+      → (it : Hosted D) × (o ≡ Some it) × IsHosted state store declared q later it
+  between store declared q later None h = absurd h
+  between store declared q later (Some it) h = (it, refl, h)
 
-  module _ (Q : TableStore → TableStore → Type 0) (w v : World) (numbers all : List ℕ) (old mid new : tree.BTreeMap ℕ (Hosted D)) (h : HoldsTables state w numbers old)
-      (k : HoldsTables state v all mid) (from : IsFrom Q w v) where
+  module _ (Q : TableStore → TableStore → Type 0) (w v : World) (old mid new : tree.BTreeMap ℕ (Hosted D)) (h : HoldsTables state w old)
+      (k : HoldsTables state v mid) (from : IsFrom Q w v) where
     pub lefts_then : (R S T : world.Hosted → Schema → TableData → Type 0) → LeftBy state images w old mid R → LeftBy state images v mid new S
         → ((hosted : world.Hosted) (schema : Schema) (held : TableData) → R hosted schema held → T hosted schema held)
         → ((hosted later : world.Hosted) (schema : Schema) (held : TableData) → Q hosted.store later.store → S later schema held → T hosted schema held)
@@ -211,9 +209,10 @@ module _ {D : Type 0} (state : D → DiskState) (images : D → ℕ → List ℕ
     lefts_then R S T first second from_first from_second q hosted before after at made was is =
         let f = from.there q hosted at made in
         let later = f.0 in
-        let m = between (schema_at v q) q later (tree.get nat_cmp mid q) (subst (λ (o : Option world.Hosted). HostedThere state (schema_at v q) q o (tree.get nat_cmp mid q)) f.1 (k.there q)) in
+        let m = between (owner_of v q) (schema_at v q) q later (tree.get nat_cmp mid q)
+        (subst (λ (o : Option world.Hosted). HostedThere state (owner_of v q) (schema_at v q) q o (tree.get nat_cmp mid q)) f.1 (k.there q)) in
         let it = m.0 in
-        let b = found state w numbers old q before h (sym was) in
+        let b = found state w old q before h (sym was) in
         let schemas : Some before.node.schema ≡ Some it.node.schema = sym b.2.schema ∙ (ap (λ (ss : List (ℕ × Schema)). lookup (is_at (nat_cmp q)) ss) (sym from.schemas) ∙ m.2.schema) in
         let same : it.node.schema ≡ before.node.schema = sym (some_same before.node.schema it.node.schema schemas) in
         rows_then st im before.node.devs it.node.devs after.node.devs (R hosted before.node.schema) (S later it.node.schema) (T hosted before.node.schema)
@@ -235,18 +234,11 @@ module _ {D : Type 0} (state : D → DiskState) (images : D → ℕ → List ℕ
 
   -- ---- a Store that falls
 
-  module _ (w v : World) (old : StoreHost D) (h : HoldsStore state w old) (tables : tree.BTreeMap ℕ (Hosted D)) (outs : List StoreOut) (new : StoreHost D)
-      (held : HoldsTables state v old.numbers tables) (downs : v.downs ≡ w.downs)
-      (falls : (x : World) → HoldsParts state x (record old { tables = tables; outs = outs }) → AreStill state images x tables new.tables) where
-    falls_here : AreStill state images v tables new.tables
-    falls_here = falls v (record { number = h.number; up = h.up ∙ ap (λ (ds : List Node). not (has_node ds the_store)) (sym downs); tables = held })
-
+  module _ (w v : World) (old tables new : tree.BTreeMap ℕ (Hosted D)) (h : HoldsTables state w old) (held : HoldsTables state v tables) (falls : AreStill state images v tables new) where
     -- behind a write or inside one
-    pub work_falls : IsFrom GoesOn w v → AreLeft state images w old.tables tables → AreLeft state images w old.tables new.tables
-    work_falls from left =
-        left_then GoesOn w v old.numbers old.numbers old.tables tables new.tables h.tables held from (λ s t q. q) left (still_left v tables new.tables falls_here)
+    pub work_falls : IsFrom GoesOn w v → AreLeft state images w old tables → AreLeft state images w old new
+    work_falls from left = left_then GoesOn w v old tables new h held from (λ s t q. q) left (still_left v tables new falls)
 
     -- and behind a read
-    pub read_falls : IsFrom SameDisk w v → AreStill state images w old.tables tables → AreLeft state images w old.tables new.tables
-    read_falls from left =
-        still_left w old.tables new.tables (still_then SameDisk w v old.numbers old.numbers old.tables tables new.tables h.tables held from (λ s t q. q) left falls_here)
+    pub read_falls : IsFrom SameDisk w v → AreStill state images w old tables → AreLeft state images w old new
+    read_falls from left = still_left w old new (still_then SameDisk w v old tables new h held from (λ s t q. q) left falls)

@@ -1,10 +1,17 @@
 pub mod Lists
 pub mod Blanks
 pub mod Hosting
+pub mod Addressed
 pub mod Maps
+pub mod Downs
+pub mod Alike
+pub mod Renewing
 pub mod Moving
 pub mod Ups
 pub mod Stores
+pub mod Keeping
+pub mod Adding
+pub mod Joined
 pub mod Falls
 pub mod Serving
 pub mod Named

@@ -16,6 +16,7 @@ use Rattle.disk_trait.specs.Calls.{DiskState}
 use Rattle.stab_base.specs.declared.step.Step.{Step}
 use Rattle.table_model.specs.declared.entry.Entry.{Entry}
 use Rattle.stab_base.specs.declared.node.Node.{Node}
+use Rattle.stab_base.specs.declared.node.Node.TheVariants as nodes
 use Rattle.row_value.specs.declared.schema.Schema.{Schema}
 use Rattle.row_value.specs.declared.schema.Scheme.{Scheme}
 use Rattle.row_value.specs.Fit.{fit_of}
@@ -31,23 +32,23 @@ use Rattle.step_tables.specs.StoreMoves.{takes, quiet, accepting, item_for, send
 use Rattle.step_tables.specs.Chunks.{is_spelled}
 use Rattle.store_node.specs.declared.fault.NodeFault.{NodeFault}
 use Rattle.store_node.specs.declared.fault.NodeFault.TheVariants.{Disk as DiskFailed}
-use Rattle.store_node.specs.declared.node.StoreOut.{StoreOut}
 use Rattle.store_node.specs.declared.showing.ShownRow.{ShownRow}
 use Rattle.store_node.specs.declared.showing.WholeRow.{WholeRow}
 use Rattle.store_node.specs.Calls.{IsAtWork, IsSpent, IsRowAt}
 use Rattle.store_node.specs.Reading.{shown_of}
-use Rattle.store_node.specs.Node.{IsNode, Fits, has_task}
+use Rattle.store_node.specs.Node.{IsTable, Fits, has_task}
 use Rattle.store_node.specs.Node.{own_faults}
-use Rattle.world_tables.specs.World.{World, Outbox, Moved, still, and_then, and_unless, failing, schema_at, hosted_at, is_fault, the_store, owner, packets_from, after_table, table_step}
+use Rattle.world_tables.specs.World.{World, Outbox, Packet, Moved, still, and_then, and_unless, failing, schema_at, hosted_at, owner_of, is_fault, packets_from, after_table, table_step}
 use Rattle.world_tables.specs.World.{move_hosted, move_table, scheme_in, chunk_in}
 use Rattle.world_tables.specs.World.{table_falls, tables_fall, table_starts, tables_start, start_hosted, declared_late, is_at_work, busy_step, next_step, tasks_in, hosted_tasks}
 use Rattle.world_tables.specs.World as world
 use Rattle.store_host.specs.declared.hosted.Hosted.{Hosted}
-use Rattle.store_host.specs.Holds.{IsHosted, HostedThere, HoldsTables, AreUpTables, behind_step, outs_in, says_something, said_by, faults_in, faults_at, SameFaults, RisenFaults}
+use Rattle.store_host.specs.declared.hosted.TableOut.{TableOut}
+use Rattle.store_host.specs.Holds.{IsHosted, HostedThere, HoldsTables, IsUpNode, IsUpTable, behind_step, outs_in, says_something, said_by, faults_in, faults_at, SameFaults, RisenFaults}
 use Rattle.store_host.specs.Steps.{HasTold, HasNodeCause, moved_at, started_by, HasTaken, HasNodeTakeCause, HasShown, HasGiven}
-use Rattle.store_host.specs.Calls.{AreMoved, HasCause, FitsIn, AreTaken, HasTakeCause, AreShown, AreGiven, table_in}
+use Rattle.store_host.specs.Calls.{AreMoved, restart_moves, HasCause, FitsIn, AreTaken, HasTakeCause, AreShown, AreGiven, table_in}
 use Rattle.store_host.proofs.Froms.{IsFrom, SameDisk, from_itself, from_then, same_then, start_from}
-use Rattle.store_host.proofs.Hosting.{up_node}
+use Rattle.store_host.proofs.Addressed.{AreAddressed, packets_same, step_to}
 use Rattle.store_host.proofs.Maps.{moved_tables, found, not_found, at_same}
 
 pub some_there : {X : Type 0} (o : Option X) (x : X) → Some x ≡ o → IsSome o
@@ -101,29 +102,43 @@ crash_answer d (Some (task ∷ tasks)) messages.FailedAfter = refl
 
 -- ---- one table
 
-module _ {D : Type 0} (state : D → DiskState) (w : World) (numbers : List ℕ) (old new : tree.BTreeMap ℕ (Hosted D)) (table : ℕ) (it : Hosted D) (was : Hosted D)
-    (at : Some was ≡ tree.get nat_cmp old table) (wrote : WritesThrough nat_cmp (nat_cmp table) old it new) (h : HoldsTables state w numbers old) where
-  told_after : (hosted base : world.Hosted) (s : StoreStep) (before after : List StoreOut) → hosted_at w table ≡ Some hosted → HasTold state (schema_at w table) table base s it before after
-      → AreMoved state w numbers new before after (is_fault s.answer) (after_table w table base s)
-  told_after hosted base s before after there t = record {
-    held = moved_tables state w numbers old new table it (wrote.3 (some_there _ was at)).0 hosted (behind_step base s) (w.packets ++ packets_from the_store s.sends) h there t.behind wrote.1;
-    outs = t.outs;
-    downs = refl;
-    failed = refl;
-  }
+module _ {D : Type 0} (state : D → DiskState) (w : World) (old new : tree.BTreeMap ℕ (Hosted D)) (table : ℕ) (it : Hosted D) (was : Hosted D)
+    (at : Some was ≡ tree.get nat_cmp old table) (wrote : WritesThrough nat_cmp (nat_cmp table) old it new) (h : HoldsTables state w old) where
+  told_after : (hosted base : world.Hosted) (s : StoreStep) (before after : List TableOut) → hosted_at w table ≡ Some hosted → AreAddressed s.sends
+      → HasTold state (owner_of w table) (schema_at w table) table base s it before after
+      → AreMoved state w new before after (is_fault s.answer) (after_table w table base s)
+  told_after hosted base s before after there to t =
+      let from : Node = nodes.Store (owner_of w table) in
+      record {
+        held = moved_tables state w old new table it (wrote.3 (some_there _ was at)).0 hosted (behind_step base s) (w.packets ++ packets_from (owner_of w) from s.sends) h there t.behind wrote.1;
+        outs = t.outs ∙ ap (λ (ps : List Packet). outs_in before ++ filter says_something (record { facts = s.facts; packets = ps } ∷ []))
+            (packets_same (λ q. owner_of w table) (owner_of w) from s.sends to);
+        downs = refl;
+        failed = refl;
+      }
 
-  pub table_moved : (move : StoreMove) (hosted : world.Hosted) (before after : List StoreOut) (fails : Bool) → hosted_at w table ≡ Some hosted
-      → HasTold state (schema_at w table) table hosted (moved_at (schema_at w table) table hosted move) it before after → is_fault (moved_at (schema_at w table) table hosted move).answer ≡ fails
-      → AreMoved state w numbers new before after fails (move_table table move w)
+  -- the table that moves is one of a node
+  is_table : (hosted : world.Hosted) → hosted_at w table ≡ Some hosted → IsTable state was.node hosted.store
+  is_table hosted there =
+      let f = found state w old table was h at in
+      let both : Some f.0 ≡ Some hosted = sym f.1 ∙ there in
+      let same : f.0 ≡ hosted = cc in
+      subst (λ (x : world.Hosted). IsTable state was.node x.store) same f.2.node
+
+  pub table_moved : (move : StoreMove) (hosted : world.Hosted) (before after : List TableOut) (fails : Bool) → hosted_at w table ≡ Some hosted
+      → HasTold state (owner_of w table) (schema_at w table) table hosted (moved_at (owner_of w table) (schema_at w table) table hosted move) it before after
+      → is_fault (moved_at (owner_of w table) (schema_at w table) table hosted move).answer ≡ fails
+      → AreMoved state w new before after fails (move_table table move w)
   table_moved move hosted before after fails there t fault =
-      subst (λ (o : Option world.Hosted). AreMoved state w numbers new before after fails (move_hosted w table move o)) (sym there)
-      (subst (λ (b : Bool). AreMoved state w numbers new before after b (after_table w table hosted (table_step w table hosted move))) fault
-      (told_after hosted hosted (table_step w table hosted move) before after there t))
+      subst (λ (o : Option world.Hosted). AreMoved state w new before after fails (move_hosted w table move o)) (sym there)
+      (subst (λ (b : Bool). AreMoved state w new before after b (after_table w table hosted (table_step w table hosted move))) fault
+      (told_after hosted hosted (table_step w table hosted move) before after there
+      (step_to state was.node (owner_of w table) (scheme_in (schema_at w table)) (chunk_in (schema_at w table)) table hosted.store move (is_table hosted there)) t))
 
-  pub work_done : (r : Result Step NodeFault) (hosted : world.Hosted) (before after : List StoreOut) → hosted_at w table ≡ Some hosted
-      → IfOk r (λ step. HasTold state (schema_at w table) table hosted (moved_at (schema_at w table) table hosted (Work messages.Done)) it before after
+  pub work_done : (r : Result Step NodeFault) (hosted : world.Hosted) (before after : List TableOut) → hosted_at w table ≡ Some hosted
+      → IfOk r (λ step. HasTold state (owner_of w table) (schema_at w table) table hosted (moved_at (owner_of w table) (schema_at w table) table hosted (Work messages.Done)) it before after
       × (step ≡ next_step (tasks_in hosted.store.agenda)))
-      → IfOk r (λ step. AreMoved state w numbers new before after false (move_table table (Work messages.Done) w) × (step ≡ next_step (hosted_tasks (hosted_at w table))))
+      → IfOk r (λ step. AreMoved state w new before after false (move_table table (Work messages.Done) w) × (step ≡ next_step (hosted_tasks (hosted_at w table))))
   work_done (Err e) hosted before after there k = tt
   work_done (Ok step) hosted before after there k = (
     table_moved (Work messages.Done) hosted before after false there k.0 (done_answer hosted.store.disk hosted.store.agenda),
@@ -131,24 +146,23 @@ module _ {D : Type 0} (state : D → DiskState) (w : World) (numbers : List ℕ)
   )
 
   -- a table that stays where it is
-  pub same_tables : (hosted : world.Hosted) → hosted_at w table ≡ Some hosted → IsHosted state (schema_at w table) table hosted it → HoldsTables state w numbers new
+  pub same_tables : (hosted : world.Hosted) → hosted_at w table ≡ Some hosted → IsHosted state (owner_of w table) (schema_at w table) table hosted it → HoldsTables state w new
   same_tables hosted there here = record {
-    there = λ q. subst (λ (o : Option (Hosted D)). HostedThere state (schema_at w q) q (hosted_at w q) o) (sym ((wrote.3 (some_there _ was at)).0 q)) (one q (is_at (nat_cmp table) q) refl);
-    all = h.all;
+    there = λ q. subst (λ (o : Option (Hosted D)). HostedThere state (owner_of w q) (schema_at w q) q (hosted_at w q) o) (sym ((wrote.3 (some_there _ was at)).0 q)) (one q (is_at (nat_cmp table) q) refl);
     keys = h.keys ∙ sym wrote.1;
     rising = h.rising;
   }
     where
-      one : (q : ℕ) (b : Bool) → is_at (nat_cmp table) q ≡ b → HostedThere state (schema_at w q) q (hosted_at w q) (cond b (Some it) (tree.get nat_cmp old q))
+      one : (q : ℕ) (b : Bool) → is_at (nat_cmp table) q ≡ b → HostedThere state (owner_of w q) (schema_at w q) q (hosted_at w q) (cond b (Some it) (tree.get nat_cmp old q))
       one q false is = h.there q
       one q true is =
-          subst (λ (k : ℕ). HostedThere state (schema_at w k) k (hosted_at w k) (Some it)) (at_same table q is)
-          (subst (λ (o : Option world.Hosted). HostedThere state (schema_at w table) table o (Some it)) (sym there) here)
+          subst (λ (k : ℕ). HostedThere state (owner_of w k) (schema_at w k) k (hosted_at w k) (Some it)) (at_same table q is)
+          (subst (λ (o : Option world.Hosted). HostedThere state (owner_of w table) (schema_at w table) table o (Some it)) (sym there) here)
 
 -- a table that isn't there
-pub nothing_moved : {D : Type 0} (state : D → DiskState) (w : World) (numbers : List ℕ) (tables : tree.BTreeMap ℕ (Hosted D)) (outs : List StoreOut) → HoldsTables state w numbers tables
-    → AreMoved state w numbers tables outs outs false (still w)
-nothing_moved state w numbers tables outs h = record { held = h; outs = sym (append-nil (outs_in outs)); downs = refl; failed = refl }
+pub nothing_moved : {D : Type 0} (state : D → DiskState) (w : World) (tables : tree.BTreeMap ℕ (Hosted D)) (outs : List TableOut) → HoldsTables state w tables
+    → AreMoved state w tables outs outs false (still w)
+nothing_moved state w tables outs h = record { held = h; outs = sym (append-nil (outs_in outs)); downs = refl; failed = refl }
 
 -- ---- faults of one table
 
@@ -263,17 +277,17 @@ abbrev pub put_before : List Outbox → Moved → Moved
 put_before outs m = record { world = m.world; outs = outs ++ m.outs; failed = m.failed }
 
 -- behind some starts that went well: the world there, what they told, and that the rest of the starts goes on from there
-pub record Begins {D : Type 0} (state : D → DiskState) (w : World) (all : List ℕ) (tables : tree.BTreeMap ℕ (Hosted D)) (before after : List StoreOut) (ns rest : List ℕ) : Type 0 where
+pub record Begins {D : Type 0} (state : D → DiskState) (w : World) (tables : tree.BTreeMap ℕ (Hosted D)) (before after : List TableOut) (ns rest : List ℕ) : Type 0 where
   pub here : World
   pub told : List Outbox
-  pub held : HoldsTables state here all tables
+  pub held : HoldsTables state here tables
   pub outs : outs_in after ≡ outs_in before ++ filter says_something told
   pub downs : here.downs ≡ w.downs
   pub from : IsFrom SameDisk w here
   pub goes : (lucks : List Luck) → (more : List Luck) × (tables_start ns more w ≡ put_before told (tables_start rest lucks here))
 
-module _ {D : Type 0} (state : D → DiskState) (w : World) (all ns : List ℕ) (before : List StoreOut) where
-  pub begins : (tables : tree.BTreeMap ℕ (Hosted D)) → HoldsTables state w all tables → Begins state w all tables before before ns ns
+module _ {D : Type 0} (state : D → DiskState) (w : World) (ns : List ℕ) (before : List TableOut) where
+  pub begins : (tables : tree.BTreeMap ℕ (Hosted D)) → HoldsTables state w tables → Begins state w tables before before ns ns
   begins tables h = record { here = w; told = []; held = h; outs = sym (append-nil (outs_in before)); downs = refl; from = from_itself SameDisk (λ s. refl) w; goes = λ lucks. (lucks, refl) }
 
   start_goes : (table : ℕ) (rest : List ℕ) (lucks : List Luck) (v : World) → (table_starts table messages.Done v).failed ≡ false
@@ -285,8 +299,8 @@ module _ {D : Type 0} (state : D → DiskState) (w : World) (all ns : List ℕ) 
       ap (λ (b : Bool). record { world = (f m.world).world; outs = told ++ (m.outs ++ (f m.world).outs); failed = b || (f m.world).failed }) well
       ∙ ap (λ (l : List Outbox). record { world = (f m.world).world; outs = l; failed = (f m.world).failed }) (sym (append_assoc told (m.outs) ((f m.world).outs)))
 
-  pub begins_next : (old new : tree.BTreeMap ℕ (Hosted D)) (mid after : List StoreOut) (table : ℕ) (left rest : List ℕ) → left ≡ table ∷ rest → (b : Begins state w all old before mid ns left)
-      → AreMoved state b.here all new mid after false (table_starts table messages.Done b.here) → Begins state w all new before after ns rest
+  pub begins_next : (old new : tree.BTreeMap ℕ (Hosted D)) (mid after : List TableOut) (table : ℕ) (left rest : List ℕ) → left ≡ table ∷ rest → (b : Begins state w old before mid ns left)
+      → AreMoved state b.here new mid after false (table_starts table messages.Done b.here) → Begins state w new before after ns rest
   begins_next old new mid after table left rest is b m = record {
     here = (table_starts table messages.Done b.here).world;
     told = b.told ++ (table_starts table messages.Done b.here).outs;
@@ -305,16 +319,16 @@ module _ {D : Type 0} (state : D → DiskState) (w : World) (all ns : List ℕ) 
         );
   }
 
-  abbrev Ends : tree.BTreeMap ℕ (Hosted D) → List StoreOut → Bool → Type 0
-  Ends tables after fails = (lucks : List Luck) × AreMoved state w all tables before after fails (tables_start ns lucks w)
+  abbrev Ends : tree.BTreeMap ℕ (Hosted D) → List TableOut → Bool → Type 0
+  Ends tables after fails = (lucks : List Luck) × AreMoved state w tables before after fails (tables_start ns lucks w)
 
-  ends_at : (tables : tree.BTreeMap ℕ (Hosted D)) (after : List StoreOut) (left : List ℕ) (lucks : List Luck) (fails : Bool) (b : Begins state w all tables before after ns left)
+  ends_at : (tables : tree.BTreeMap ℕ (Hosted D)) (after : List TableOut) (left : List ℕ) (lucks : List Luck) (fails : Bool) (b : Begins state w tables before after ns left)
       → tables_start left lucks b.here ≡ record { world = b.here; outs = []; failed = fails } → Ends tables after fails
   ends_at tables after left lucks fails b is =
       let g = b.goes lucks in
       let whole : tables_start ns g.0 w ≡ record { world = b.here; outs = b.told ++ []; failed = fails } = g.1 ∙ ap (put_before b.told) is in (
         g.0,
-        subst (λ (m : Moved). AreMoved state w all tables before after fails m) (sym whole) (record {
+        subst (λ (m : Moved). AreMoved state w tables before after fails m) (sym whole) (record {
           held = b.held;
           outs = b.outs ∙ ap (λ (l : List Outbox). outs_in before ++ filter says_something l) (sym (append-nil b.told));
           downs = b.downs;
@@ -323,46 +337,60 @@ module _ {D : Type 0} (state : D → DiskState) (w : World) (all ns : List ℕ) 
       )
 
   -- none is left
-  pub ends_well : (tables : tree.BTreeMap ℕ (Hosted D)) (after : List StoreOut) (left : List ℕ) → left ≡ [] → Begins state w all tables before after ns left → Ends tables after false
+  pub ends_well : (tables : tree.BTreeMap ℕ (Hosted D)) (after : List TableOut) (left : List ℕ) → left ≡ [] → Begins state w tables before after ns left → Ends tables after false
   ends_well tables after left none b = ends_at tables after left [] false b (ap (λ (l : List ℕ). tables_start l [] b.here) none)
 
   -- the next one fails
-  pub ends_badly : (old new : tree.BTreeMap ℕ (Hosted D)) (mid after : List StoreOut) (table : ℕ) (left rest : List ℕ) → left ≡ table ∷ rest → (b : Begins state w all old before mid ns left)
-      → HoldsTables state b.here all new → after ≡ mid → Ends new after true
+  pub ends_badly : (old new : tree.BTreeMap ℕ (Hosted D)) (mid after : List TableOut) (table : ℕ) (left rest : List ℕ) → left ≡ table ∷ rest → (b : Begins state w old before mid ns left)
+      → HoldsTables state b.here new → after ≡ mid → Ends new after true
   ends_badly old new mid after table left rest is b held same =
       ends_at new after left (messages.FailedBefore ∷ []) true
       (record { here = b.here; told = b.told; held = held; outs = ap outs_in same ∙ b.outs; downs = b.downs; from = b.from; goes = b.goes })
       (ap (λ (l : List ℕ). tables_start l (messages.FailedBefore ∷ []) b.here) is)
 
+-- behind a fall of the same tables
+pub restarted : {D : Type 0} (state : D → DiskState) (w : World) (ns : List ℕ) (new : tree.BTreeMap ℕ (Hosted D)) (before after : List TableOut) (fails : Bool) (lucks : List Luck)
+    → AreMoved state (tables_fall ns w).world new before after fails (tables_start ns lucks (tables_fall ns w).world) → AreMoved state w new before after fails (restart_moves ns lucks w)
+restarted state w ns new before after fails lucks a =
+    let m : Moved = tables_fall ns w in
+    let silent = falls_silent ns w in
+    record {
+      held = a.held;
+      outs = a.outs ∙ ap (λ (l : List Outbox). outs_in before ++ l)
+          (sym (filter-append says_something m.outs (tables_start ns lucks m.world).outs ∙ ap (λ (l : List Outbox). l ++ said_by (tables_start ns lucks m.world)) silent.said));
+      downs = a.downs ∙ silent.downs;
+      failed = ap (λ (b : Bool). b || (tables_start ns lucks m.world).failed) silent.failed ∙ a.failed;
+    }
+
 -- ---- a start of one table
 
-module _ {D : Type 0} (state : D → DiskState) (w : World) (numbers : List ℕ) (old new : tree.BTreeMap ℕ (Hosted D)) (table : ℕ) (it : Hosted D) (was : Hosted D)
-    (at : Some was ≡ tree.get nat_cmp old table) (wrote : WritesThrough nat_cmp (nat_cmp table) old it new) (h : HoldsTables state w numbers old) where
-  start_answer : (disk : StoreDisk) (agenda : Option (List StoreTask)) → is_fault (started owner table disk agenda).answer ≡ false
+module _ {D : Type 0} (state : D → DiskState) (w : World) (old new : tree.BTreeMap ℕ (Hosted D)) (table : ℕ) (it : Hosted D) (was : Hosted D)
+    (at : Some was ≡ tree.get nat_cmp old table) (wrote : WritesThrough nat_cmp (nat_cmp table) old it new) (h : HoldsTables state w old) where
+  start_answer : (disk : StoreDisk) (agenda : Option (List StoreTask)) → is_fault (started (owner_of w table) table disk agenda).answer ≡ false
   start_answer disk (Some tasks) = refl
   start_answer disk None = by_pending disk.pending refl
     where
-      by_pending : (o : Option Stored) → disk.pending ≡ o → is_fault (recover owner table disk o).answer ≡ false
+      by_pending : (o : Option Stored) → disk.pending ≡ o → is_fault (recover (owner_of w table) table disk o).answer ≡ false
       by_pending None is = refl
       by_pending (Some pending) is = by_item (item_at pending.entry.version disk.items)
         where
-          by_item : (o : Option Stored) → is_fault (recovered owner table disk pending o).answer ≡ false
+          by_item : (o : Option Stored) → is_fault (recovered (owner_of w table) table disk pending o).answer ≡ false
           by_item None = refl
           by_item (Some found) = refl
 
-  pub table_started : (store : TableStore) (history : List Entry) (made : Bool) (before after : List StoreOut)
+  pub table_started : (store : TableStore) (history : List Entry) (made : Bool) (before after : List TableOut)
       → hosted_at w table ≡ Some (record { store = store; history = history; made = made })
-      → HasTold state (schema_at w table) table (record { store = store; history = history; made = true })
-      (started_by (schema_at w table) table (record { store = store; history = history; made = made }) made) it before after
-      → AreMoved state w numbers new before after false (table_starts table messages.Done w)
+      → HasTold state (owner_of w table) (schema_at w table) table (record { store = store; history = history; made = true })
+      (started_by (owner_of w table) (schema_at w table) table (record { store = store; history = history; made = made }) made) it before after
+      → AreMoved state w new before after false (table_starts table messages.Done w)
   table_started store history true before after there t =
       let hosted : world.Hosted = record { store = store; history = history; made = true } in
-      subst (λ (o : Option world.Hosted). AreMoved state w numbers new before after false (start_hosted w table o)) (sym there)
-      (table_moved state w numbers old new table it was at wrote h Start hosted before after false there t (start_answer store.disk store.agenda))
+      subst (λ (o : Option world.Hosted). AreMoved state w new before after false (start_hosted w table o)) (sym there)
+      (table_moved state w old new table it was at wrote h Start hosted before after false there t (start_answer store.disk store.agenda))
   table_started store history false before after there t =
-      subst (λ (o : Option world.Hosted). AreMoved state w numbers new before after false (start_hosted w table o)) (sym there)
-      (told_after state w numbers old new table it was at wrote h (record { store = store; history = history; made = false }) (record { store = store; history = history; made = true })
-      (declared_late table) before after there t)
+      subst (λ (o : Option world.Hosted). AreMoved state w new before after false (start_hosted w table o)) (sym there)
+      (told_after state w old new table it was at wrote h (record { store = store; history = history; made = false }) (record { store = store; history = history; made = true })
+      (declared_late (owner_of w table) table) before after there tt t)
 
 -- ---- messages and rows
 
@@ -417,27 +445,27 @@ there_fits w (kinds.PullResponse q) schema is f = tt
 there_fits w (kinds.TornRowRequest q) schema is f = tt
 there_fits w (kinds.TornRowResponse q) schema is f = tt
 
-module _ {D : Type 0} (state : D → DiskState) (w : World) (numbers : List ℕ) (old new : tree.BTreeMap ℕ (Hosted D)) (it was : Hosted D) (h : HoldsTables state w numbers old) where
+module _ {D : Type 0} (state : D → DiskState) (w : World) (old new : tree.BTreeMap ℕ (Hosted D)) (it was : Hosted D) (h : HoldsTables state w old) where
   same_hosted : (o : Option world.Hosted) (a b : world.Hosted) → o ≡ Some a → o ≡ Some b → a ≡ b
   same_hosted o a b there here = let both : Some a ≡ Some b = sym there ∙ here in cc
 
   module _ (from : Node) (message : Message) where
-    taken_in : Some was ≡ tree.get nat_cmp old (table_in message) → WritesThrough nat_cmp (nat_cmp (table_in message)) old it new → (before after : List StoreOut) (r : Result (Unit {0}) NodeFault)
-        → ((hosted : world.Hosted) → IsHosted state (schema_at w (table_in message)) (table_in message) hosted was → HasTaken state (schema_at w (table_in message)) (table_in message) hosted from message was it before after r)
-        → AreTaken state w numbers from message new before after r
+    taken_in : Some was ≡ tree.get nat_cmp old (table_in message) → WritesThrough nat_cmp (nat_cmp (table_in message)) old it new → (before after : List TableOut) (r : Result (Unit {0}) NodeFault)
+        → ((hosted : world.Hosted) → IsHosted state (owner_of w (table_in message)) (schema_at w (table_in message)) (table_in message) hosted was → HasTaken state (owner_of w (table_in message)) (schema_at w (table_in message)) (table_in message) hosted from message was it before after r)
+        → AreTaken state w from message new before after r
     taken_in at wrote before after r take =
         let table = table_in message in
-        let f = found state w numbers old table was h at in
+        let f = found state w old table was h at in
         let hosted = f.0 in
         let k = take f.0 f.2 in
         let agenda_is : (other : world.Hosted) → hosted_at w table ≡ Some other → hosted ≡ other = λ other here. same_hosted (hosted_at w table) hosted other f.1 here in
         record {
           done = λ fits.
               on_ok_weaker r
-              (λ t. table_moved state w numbers old new table it was at wrote h (Take from (message_of message)) hosted before after false f.1 t
+              (λ t. table_moved state w old new table it was at wrote h (Take from (message_of message)) hosted before after false f.1 t
               (take_answer (scheme_in (schema_at w table)) (chunk_in (schema_at w table)) table hosted.store.disk from hosted.store.agenda (message_of message)))
               (k.taken (sym f.2.number, fits_there w message was.node.schema f.2.schema fits));
-          dropped = λ no. on_ok_weaker r (λ t. (same_tables state w numbers old new table it was at wrote h hosted f.1 t.0, t.1)) (k.dropped (λ is. no (there_fits w message was.node.schema f.2.schema is.1)));
+          dropped = λ no. on_ok_weaker r (λ t. (same_tables state w old new table it was at wrote h hosted f.1 t.0, t.1)) (k.dropped (λ is. no (there_fits w message was.node.schema f.2.schema is.1)));
           idle = λ no other here. subst (λ (x : world.Hosted). x.store.agenda ≡ Some []) (agenda_is other here) (k.idle no);
           busy = λ version. (
             λ e. (hosted, f.1, (k.busy version).0 e),
@@ -446,47 +474,47 @@ module _ {D : Type 0} (state : D → DiskState) (w : World) (numbers : List ℕ)
           given = λ fits s.
               k.given (sym f.2.number, fits_there w message was.node.schema f.2.schema fits) (subst (λ (x : world.Hosted). IsSpent was.node.schema.scheme was.node.schema.chunk x.store.disk message) (sym (agenda_is s.0 s.1)) (subst (λ (o : Option Schema). IsSpent (scheme_in o) (chunk_in o) s.0.store.disk message) f.2.schema s.3));
           spent = λ last e. let s = k.spent last e in ((hosted, f.1, s.0, subst (λ (o : Option Schema). IsSpent (scheme_in o) (chunk_in o) hosted.store.disk message) (sym f.2.schema) s.1), s.2);
-          refused = λ no. on_err_weaker r (λ t. (same_tables state w numbers old new table it was at wrote h hosted f.1 t.0, t.1)) (k.refused no);
+          refused = λ no. on_err_weaker r (λ t. (same_tables state w old new table it was at wrote h hosted f.1 t.0, t.1)) (k.refused no);
           fallen = λ is.
               let t = k.fallen is in (
-                table_moved state w numbers old new table it was at wrote h (Crash messages.FailedBefore) hosted [] [] false f.1 t.0 (crash_answer hosted.store.disk hosted.store.agenda messages.FailedBefore),
+                table_moved state w old new table it was at wrote h (Crash messages.FailedBefore) hosted [] [] false f.1 t.0 (crash_answer hosted.store.disk hosted.store.agenda messages.FailedBefore),
                 t.1,
               );
         }
 
-    pub tables_taken : (table : ℕ) → table ≡ table_in message → Some was ≡ tree.get nat_cmp old table → WritesThrough nat_cmp (nat_cmp table) old it new → (before after : List StoreOut)
+    pub tables_taken : (table : ℕ) → table ≡ table_in message → Some was ≡ tree.get nat_cmp old table → WritesThrough nat_cmp (nat_cmp table) old it new → (before after : List TableOut)
         (r : Result (Unit {0}) NodeFault)
-        → ((hosted : world.Hosted) → IsHosted state (schema_at w (table_in message)) (table_in message) hosted was → HasTaken state (schema_at w (table_in message)) (table_in message) hosted from message was it before after r)
-        → AreTaken state w numbers from message new before after r
+        → ((hosted : world.Hosted) → IsHosted state (owner_of w (table_in message)) (schema_at w (table_in message)) (table_in message) hosted was → HasTaken state (owner_of w (table_in message)) (schema_at w (table_in message)) (table_in message) hosted from message was it before after r)
+        → AreTaken state w from message new before after r
     tables_taken table is at wrote =
         taken_in (subst (λ (t : ℕ). Some was ≡ tree.get nat_cmp old t) is at) (subst (λ (t : ℕ). WritesThrough nat_cmp (nat_cmp t) old it new) is wrote)
 
   pub tables_shown : (table : ℕ) → Some was ≡ tree.get nat_cmp old table → WritesThrough nat_cmp (nat_cmp table) old it new → (row : List ℕ) (r : Result (Option ShownRow) NodeFault)
-      → ((hosted : world.Hosted) → IsHosted state (schema_at w table) table hosted was → HasShown state (schema_at w table) table hosted row it r) → AreShown state w numbers table row new r
+      → ((hosted : world.Hosted) → IsHosted state (owner_of w table) (schema_at w table) table hosted was → HasShown state (owner_of w table) (schema_at w table) table hosted row it r) → AreShown state w table row new r
   tables_shown table at wrote row r show =
-      let f = found state w numbers old table was h at in
+      let f = found state w old table was h at in
       let hosted = f.0 in
       let k = show f.0 f.2 in
       record {
         shown = λ other here.
             subst (λ (x : world.Hosted). IfOk r (λ shown. shown ≡ option_map shown_of (current_of x.store.disk.items row))) (same_hosted (hosted_at w table) hosted other f.1 here) k.shown;
-        stays = λ no. same_tables state w numbers old new table it was at wrote h hosted f.1 (k.stays no);
+        stays = λ no. same_tables state w old new table it was at wrote h hosted f.1 (k.stays no);
         fallen = λ is.
-            table_moved state w numbers old new table it was at wrote h (Crash messages.FailedBefore) hosted [] [] false f.1 (k.fallen is) (crash_answer hosted.store.disk hosted.store.agenda messages.FailedBefore);
+            table_moved state w old new table it was at wrote h (Crash messages.FailedBefore) hosted [] [] false f.1 (k.fallen is) (crash_answer hosted.store.disk hosted.store.agenda messages.FailedBefore);
       }
 
   pub tables_given : (table : ℕ) → Some was ≡ tree.get nat_cmp old table → WritesThrough nat_cmp (nat_cmp table) old it new → (row : List ℕ) (r : Result (Option WholeRow) NodeFault)
-      → ((hosted : world.Hosted) → IsHosted state (schema_at w table) table hosted was → HasGiven state (schema_at w table) table hosted row it r) → AreGiven state w numbers table row new r
+      → ((hosted : world.Hosted) → IsHosted state (owner_of w table) (schema_at w table) table hosted was → HasGiven state (owner_of w table) (schema_at w table) table hosted row it r) → AreGiven state w table row new r
   tables_given table at wrote row r give =
-      let f = found state w numbers old table was h at in
+      let f = found state w old table was h at in
       let hosted = f.0 in
       let k = give f.0 f.2 in
       record {
         given = λ other here.
             subst (λ (x : world.Hosted). IfOk r (IsRowAt x.store.disk.items row (current_of x.store.disk.items row))) (same_hosted (hosted_at w table) hosted other f.1 here) k.given;
-        stays = λ no. same_tables state w numbers old new table it was at wrote h hosted f.1 (k.stays no);
+        stays = λ no. same_tables state w old new table it was at wrote h hosted f.1 (k.stays no);
         fallen = λ is.
-            table_moved state w numbers old new table it was at wrote h (Crash messages.FailedBefore) hosted [] [] false f.1 (k.fallen is) (crash_answer hosted.store.disk hosted.store.agenda messages.FailedBefore);
+            table_moved state w old new table it was at wrote h (Crash messages.FailedBefore) hosted [] [] false f.1 (k.fallen is) (crash_answer hosted.store.disk hosted.store.agenda messages.FailedBefore);
       }
 
   pub tables_take_cause : (table : ℕ) → Some was ≡ tree.get nat_cmp old table → WritesThrough nat_cmp (nat_cmp table) old it new → (r : Result (Unit {0}) NodeFault)
@@ -498,11 +526,11 @@ module _ {D : Type 0} (state : D → DiskState) (w : World) (numbers : List ℕ)
   }
 
 -- a message of a table that isn't there
-lost_at : {D : Type 0} (state : D → DiskState) (w : World) (numbers : List ℕ) (tables : tree.BTreeMap ℕ (Hosted D)) (from : Node) (message : Message) (outs : List StoreOut) → HoldsTables state w numbers tables
-    → hosted_at w (table_in message) ≡ None → AreTaken state w numbers from message tables outs outs (Ok tt)
-lost_at state w numbers tables from message outs h none = record {
-  done = λ fits. subst (λ (o : Option world.Hosted). AreMoved state w numbers tables outs outs false (move_hosted w (table_in message) (Take from (message_of message)) o)) (sym none)
-      (nothing_moved state w numbers tables outs h);
+lost_at : {D : Type 0} (state : D → DiskState) (w : World) (tables : tree.BTreeMap ℕ (Hosted D)) (from : Node) (message : Message) (outs : List TableOut) → HoldsTables state w tables
+    → hosted_at w (table_in message) ≡ None → AreTaken state w from message tables outs outs (Ok tt)
+lost_at state w tables from message outs h none = record {
+  done = λ fits. subst (λ (o : Option world.Hosted). AreMoved state w tables outs outs false (move_hosted w (table_in message) (Take from (message_of message)) o)) (sym none)
+      (nothing_moved state w tables outs h);
   dropped = λ no. (h, refl);
   idle = λ no hosted here. absurd (gone hosted here);
   busy = λ version. (λ e. absurd cc, λ b. absurd (gone b.0 b.1));
@@ -515,22 +543,17 @@ lost_at state w numbers tables from message outs h none = record {
     gone : (hosted : world.Hosted) → hosted_at w (table_in message) ≡ Some hosted → ⊥
     gone hosted here = let both : None ≡ Some hosted = sym none ∙ here in cc
 
-pub lost : {D : Type 0} (state : D → DiskState) (w : World) (numbers : List ℕ) (tables : tree.BTreeMap ℕ (Hosted D)) (from : Node) (message : Message) (outs : List StoreOut) (table : ℕ) → table ≡ table_in message
-    → HoldsTables state w numbers tables → None ≡ tree.get nat_cmp tables table → AreTaken state w numbers from message tables outs outs (Ok tt)
-lost state w numbers tables from message outs table is h none =
-    lost_at state w numbers tables from message outs h (subst (λ (t : ℕ). hosted_at w t ≡ None) is (not_found state w numbers tables table h none))
+pub lost : {D : Type 0} (state : D → DiskState) (w : World) (tables : tree.BTreeMap ℕ (Hosted D)) (from : Node) (message : Message) (outs : List TableOut) (table : ℕ) → table ≡ table_in message
+    → HoldsTables state w tables → None ≡ tree.get nat_cmp tables table → AreTaken state w from message tables outs outs (Ok tt)
+lost state w tables from message outs table is h none =
+    lost_at state w tables from message outs h (subst (λ (t : ℕ). hosted_at w t ≡ None) is (not_found state w tables table h none))
 
 pub no_take_cause : {D : Type 0} (state : D → DiskState) (tables : tree.BTreeMap ℕ (Hosted D)) → HasTakeCause state tables tables (Ok tt)
 no_take_cause state tables = record { counted = λ none q. refl; cause = λ failed. absurd cc; only = tt }
 
 -- a table that was found is up
-pub found_up : {D : Type 0} (state : D → DiskState) (tables : tree.BTreeMap ℕ (Hosted D)) (table : ℕ) (it : Hosted D) → AreUpTables state tables → Some it ≡ tree.get nat_cmp tables table → it.node.is_up ≡ true
-found_up state tables table it a is =
-    let f = found state a.0 a.1 tables table it a.2 is in
-    up_node state it.node f.0.store.disk f.0.store.agenda f.2.node (a.3 table f.0 f.1)
-
-pub found_is : {D : Type 0} (state : D → DiskState) (tables : tree.BTreeMap ℕ (Hosted D)) (table : ℕ) (it : Hosted D) → AreUpTables state tables → Some it ≡ tree.get nat_cmp tables table → IsNode state it.node
-found_is state tables table it a is = let f = found state a.0 a.1 tables table it a.2 is in (f.0.store, f.2.node)
+pub found_up : {D : Type 0} (tables : tree.BTreeMap ℕ (Hosted D)) (table : ℕ) (it : Hosted D) → IsUpTable tables table → Some it ≡ tree.get nat_cmp tables table → it.node.is_up ≡ true
+found_up tables table it up is = subst IsUpNode (sym is) up
 
 -- a disk failed, and the Store fell
 module _ {D : Type 0} (state : D → DiskState) (old mid new : tree.BTreeMap ℕ (Hosted D)) (same : SameFaults state mid new) (e : NodeFault) (is : e ≡ DiskFailed) where

@@ -70,12 +70,12 @@ module _ (size : ℕ) (disk : StoreDisk) where
       (λ name a. k.all name (from_all name (among_rising name all_names a)))
 
 -- the names that a table's node gives
-pub names_at : {D : Type 0} (state : D → DiskState) (w : World) (numbers : List ℕ) (tables : tree.BTreeMap ℕ (Hosted D)) (table : ℕ) (it : Hosted D) → HoldsTables state w numbers tables
+pub names_at : {D : Type 0} (state : D → DiskState) (w : World) (tables : tree.BTreeMap ℕ (Hosted D)) (table : ℕ) (it : Hosted D) → HoldsTables state w tables
     → Some it ≡ tree.get nat_cmp tables table → (hosted : world.Hosted) → hosted_at w table ≡ Some hosted → (r : Result (List ChunkName) NodeFault)
     → ((s : TableStore) → IsTable state it.node s → IfOk r (AreKept it.node.schema.chunk s.disk)) → IfOk r (λ names. names ≡ names_on (chunk_in (schema_at w table)) hosted.store.disk)
-names_at state w numbers tables table it h is hosted there (Err e) k = tt
-names_at state w numbers tables table it h is hosted there (Ok names) k =
-    let f = found state w numbers tables table it h is in
+names_at state w tables table it h is hosted there (Err e) k = tt
+names_at state w tables table it h is hosted there (Ok names) k =
+    let f = found state w tables table it h is in
     let both : Some f.0 ≡ Some hosted = sym f.1 ∙ there in
     let same : f.0 ≡ hosted = cc in
     subst (λ (o : Option Schema). names ≡ names_on (chunk_in o) hosted.store.disk) (sym f.2.schema)

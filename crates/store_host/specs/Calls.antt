@@ -1,4 +1,4 @@
--- What the calls of a Store with its tables promise, in the moves of the world.
+-- What the calls of the Stores with their tables promise, in the moves of the world.
 use Rattle.std.specs.Prelude.{◌≡◌, ◌⊎◌, ◌↔◌, ℕ, Bool, false, List, [], ◌++◌, Option, Some, None}
 use Rattle.std.specs.Prelude.{option_map, Result, Ok, OnOk, OnErr, IfOk, IfErr, IsErrOf}
 use Rattle.std.specs.BTreeMap as tree
@@ -17,30 +17,30 @@ use Rattle.step_tables.specs.declared.message.Message.{Message}
 use Rattle.step_tables.specs.declared.message.Message.TheVariants as kinds
 use Rattle.store_node.specs.declared.fault.NodeFault.{NodeFault}
 use Rattle.store_node.specs.declared.fault.NodeFault.TheVariants.{Busy, Spent, Disk, Memory}
-use Rattle.store_node.specs.declared.node.StoreOut.{StoreOut}
 use Rattle.store_node.specs.declared.showing.ShownRow.{ShownRow}
 use Rattle.store_node.specs.declared.showing.WholeRow.{WholeRow}
 use Rattle.store_node.specs.Calls.{IsAtWork, IsSpent, IsRowAt}
 use Rattle.store_node.specs.Reading.{shown_of}
-use Rattle.world_tables.specs.World.{World, Moved, owner, scheme_in, chunk_in, schema_at, hosted_at, move_table, table_falls}
-use Rattle.world_tables.specs.World.{store_falls}
-use Rattle.world_tables.specs.World.{table_crashes, crash_luck, first_luck, other_lucks, busy_table}
+use Rattle.world_tables.specs.World.{World, Moved, owner_of, scheme_in, chunk_in, schema_at, hosted_at}
+use Rattle.world_tables.specs.World.{and_then, move_table, table_falls, tables_fall, tables_start, store_falls}
+use Rattle.world_tables.specs.World.{table_crashes, crash_luck, first_luck, other_lucks}
 use Rattle.world_tables.specs.World as world
 use Rattle.store_host.specs.declared.hosted.Hosted.{Hosted}
+use Rattle.store_host.specs.declared.hosted.TableOut.{TableOut}
 use Rattle.store_host.specs.declared.host.StoreHost.{StoreHost}
 use Rattle.store_host.specs.Holds.{HoldsTables, HoldsStore, outs_in, outs_of, said_by, SameFaults, RisenFaults}
 use Rattle.store_host.specs.Steps.{IsBusy, IsTakeFault}
 
 -- The tables are where these moves lead to from this world, and what the moves told and sent was put behind what was.
 -- One of the moves failed, or none.
-pub record AreMoved {D : Type 0} (state : D → DiskState) (w : World) (numbers : List ℕ)
-    (tables : tree.BTreeMap ℕ (Hosted D)) (old new : List StoreOut) (fails : Bool) (m : Moved) : Type 0 where
-  pub held : HoldsTables state m.world numbers tables
+pub record AreMoved {D : Type 0} (state : D → DiskState) (w : World) (tables : tree.BTreeMap ℕ (Hosted D))
+    (old new : List TableOut) (fails : Bool) (m : Moved) : Type 0 where
+  pub held : HoldsTables state m.world tables
   pub outs : outs_in new ≡ outs_in old ++ said_by m
   pub downs : m.world.downs ≡ w.downs
   pub failed : m.failed ≡ fails
 
--- The Store is where these moves lead to.
+-- The Stores are where these moves lead to.
 pub record IsMoved {D : Type 0} (state : D → DiskState) (old new : StoreHost D) (m : Moved) : Type 0 where
   pub held : HoldsStore state m.world new
   pub outs : outs_of new ≡ outs_of old ++ said_by m
@@ -55,20 +55,25 @@ pub record HasCause {D T : Type 0} (state : D → DiskState) (old new : tree.BTr
 -- ---- crashes
 
 -- What the first luck of a crash says of the disks: where it is that no device call fails, none has failed by itself;
--- else one has. A Store with no writes to do has no such fault.
-pub record HasLuck {D : Type 0} (state : D → DiskState) (w : World) (old new : tree.BTreeMap ℕ (Hosted D))
+-- else one has. A Store with no table that has writes to do has no such fault.
+pub record HasLuck {D : Type 0} (state : D → DiskState) (busy : Option ℕ) (old new : tree.BTreeMap ℕ (Hosted D))
     (lucks : List Luck) : Type 0 where
   pub done : SameFaults state old new → first_luck lucks ≡ messages.Done
   pub counted : first_luck lucks ≡ messages.Done → SameFaults state old new
   pub cause : (first_luck lucks ≡ messages.Done → ⊥) → RisenFaults state old new
-  pub idle : busy_table w owner ≡ None → first_luck lucks ≡ messages.Done
+  pub idle : busy ≡ None → first_luck lucks ≡ messages.Done
 
--- What a crash makes of the tables, with some lucks.
-abbrev pub AreCrashed : {D : Type 0} → (D → DiskState) → World → List ℕ → ℕ → (old new : tree.BTreeMap ℕ (Hosted D))
+-- What a crash inside the next write of this table makes of the tables, with some lucks.
+abbrev pub AreCrashed : {D : Type 0} → (D → DiskState) → World → Option ℕ → ℕ → (old new : tree.BTreeMap ℕ (Hosted D))
     → Type 0
-AreCrashed state w numbers calls old new = (lucks : List Luck) × AreMoved state w numbers new [] [] false
-    (table_crashes (crash_luck calls (other_lucks lucks) (first_luck lucks)) (busy_table w owner) w)
-    × HasLuck state w old new lucks
+AreCrashed state w busy calls old new = (lucks : List Luck) × AreMoved state w new [] [] false
+    (table_crashes (crash_luck calls (other_lucks lucks) (first_luck lucks)) busy w) × HasLuck state busy old new lucks
+
+-- ---- starts
+
+-- these tables fall, and then they are started
+abbrev pub restart_moves : List ℕ → List Luck → World → Moved
+restart_moves numbers lucks w = and_then (tables_fall numbers w) (tables_start numbers lucks)
 
 -- ---- messages
 
@@ -103,24 +108,24 @@ pub record HasTakeCause {D : Type 0} (state : D → DiskState) (old new : tree.B
   pub only : IfErr result IsTakeFault
 
 -- What the tables make of a message for one of them.
-pub record AreTaken {D : Type 0} (state : D → DiskState) (w : World) (numbers : List ℕ) (from : Node)
-    (message : Message) (new : tree.BTreeMap ℕ (Hosted D)) (before after : List StoreOut)
+pub record AreTaken {D : Type 0} (state : D → DiskState) (w : World) (from : Node)
+    (message : Message) (new : tree.BTreeMap ℕ (Hosted D)) (before after : List TableOut)
     (result : Result (Unit {0}) NodeFault) : Type 0 where
-  pub done : FitsIn w message → OnOk result (AreMoved state w numbers new before after false
+  pub done : FitsIn w message → OnOk result (AreMoved state w new before after false
       (move_table (table_in message) (Take from (message_of message)) w))
-  pub dropped : (FitsIn w message → ⊥) → OnOk result (HoldsTables state w numbers new × (after ≡ before))
+  pub dropped : (FitsIn w message → ⊥) → OnOk result (HoldsTables state w new × (after ≡ before))
   pub idle : (IsBusy result → ⊥) → (hosted : world.Hosted) → hosted_at w (table_in message) ≡ Some hosted
       → hosted.store.agenda ≡ Some []
   pub busy : (version : ℕ) → IsErrOf result (Busy version) ↔ IsBusyWith w (table_in message) version
   pub given : FitsIn w message → IsSpentIn w message → OnOk result ⊥
   pub spent : (last : ℕ) → IsErrOf result (Spent last) → IsSpentIn w message × (last ≡ NUMBER_MAX)
-  pub refused : (IsErrOf result Disk → ⊥) → OnErr result (HoldsTables state w numbers new × (after ≡ before))
+  pub refused : (IsErrOf result Disk → ⊥) → OnErr result (HoldsTables state w new × (after ≡ before))
   pub fallen : IsErrOf result Disk
-      → AreMoved state w numbers new [] [] false (table_falls (table_in message) w) × (after ≡ before)
+      → AreMoved state w new [] [] false (table_falls (table_in message) w) × (after ≡ before)
 
--- What a Store makes of a message for one of its tables: the table's move, or nothing, where the table isn't there or
--- the content is no row of it. A refusal leaves all as it was. Where a disk has failed the Store is down with all its
--- tables, and no device has changed.
+-- What the Stores make of a message for a table: the table's move, or nothing, where the table isn't there or the
+-- content is no row of it. A refusal leaves all as it was. Where a disk has failed the owner is down with all its tables,
+-- and no device has changed.
 pub record Takes {D : Type 0} (state : D → DiskState) (w : World) (from : Node) (message : Message)
     (old new : StoreHost D) (result : Result (Unit {0}) NodeFault) : Type 0 where
   pub done : FitsIn w message
@@ -132,43 +137,43 @@ pub record Takes {D : Type 0} (state : D → DiskState) (w : World) (from : Node
   pub given : FitsIn w message → IsSpentIn w message → OnOk result ⊥
   pub spent : (last : ℕ) → IsErrOf result (Spent last) → IsSpentIn w message × (last ≡ NUMBER_MAX)
   pub refused : (IsErrOf result Disk → ⊥) → OnErr result (HoldsStore state w new)
-  pub fallen : IsErrOf result Disk → IsMoved state old new (store_falls owner w)
+  pub fallen : IsErrOf result Disk → IsMoved state old new (store_falls (owner_of w (table_in message)) w)
 
 -- ---- rows
 
 -- What the tables show of a row of one of them.
-pub record AreShown {D : Type 0} (state : D → DiskState) (w : World) (numbers : List ℕ) (table : ℕ) (row : List ℕ)
+pub record AreShown {D : Type 0} (state : D → DiskState) (w : World) (table : ℕ) (row : List ℕ)
     (new : tree.BTreeMap ℕ (Hosted D)) (result : Result (Option ShownRow) NodeFault) : Type 0 where
   pub shown : (hosted : world.Hosted) → hosted_at w table ≡ Some hosted
       → IfOk result (λ shown. shown ≡ option_map shown_of (current_of hosted.store.disk.items row))
-  pub stays : (IsErrOf result Disk → ⊥) → HoldsTables state w numbers new
-  pub fallen : IsErrOf result Disk → AreMoved state w numbers new [] [] false (table_falls table w)
+  pub stays : (IsErrOf result Disk → ⊥) → HoldsTables state w new
+  pub fallen : IsErrOf result Disk → AreMoved state w new [] [] false (table_falls table w)
 
--- What a Store shows of a row of one of its tables: its last item, if it has one. Nothing has changed; or a disk has
--- failed, and the Store is down with all its tables.
+-- What is shown of a row of a table: its last item, if it has one. Nothing has changed; or a disk has failed, and the
+-- owner is down with all its tables.
 pub record ShowsRow {D : Type 0} (state : D → DiskState) (w : World) (table : ℕ) (row : List ℕ)
     (old new : StoreHost D) (result : Result (Option ShownRow) NodeFault) : Type 0 where
   pub shown : (hosted : world.Hosted) → hosted_at w table ≡ Some hosted
       → IfOk result (λ shown. shown ≡ option_map shown_of (current_of hosted.store.disk.items row))
   pub stays : (IsErrOf result Disk → ⊥) → HoldsStore state w new
-  pub fallen : IsErrOf result Disk → IsMoved state old new (store_falls owner w)
+  pub fallen : IsErrOf result Disk → IsMoved state old new (store_falls (owner_of w table) w)
 
 -- ---- rows whole
 
 -- What the tables give of a row of one of them.
-pub record AreGiven {D : Type 0} (state : D → DiskState) (w : World) (numbers : List ℕ) (table : ℕ) (row : List ℕ)
+pub record AreGiven {D : Type 0} (state : D → DiskState) (w : World) (table : ℕ) (row : List ℕ)
     (new : tree.BTreeMap ℕ (Hosted D)) (result : Result (Option WholeRow) NodeFault) : Type 0 where
   pub given : (hosted : world.Hosted) → hosted_at w table ≡ Some hosted
       → IfOk result (IsRowAt hosted.store.disk.items row (current_of hosted.store.disk.items row))
-  pub stays : (IsErrOf result Disk → ⊥) → HoldsTables state w numbers new
-  pub fallen : IsErrOf result Disk → AreMoved state w numbers new [] [] false (table_falls table w)
+  pub stays : (IsErrOf result Disk → ⊥) → HoldsTables state w new
+  pub fallen : IsErrOf result Disk → AreMoved state w new [] [] false (table_falls table w)
 
--- What a Store gives of a row of one of its tables: the row whole as it is now, with the names of its chunks and the
--- last write of each client on it, if anything was written to it. Nothing has changed; or a disk has failed, and the
--- Store is down with all its tables.
+-- What is given of a row of a table: the row whole as it is now, with the names of its chunks and the last write of each
+-- client on it, if anything was written to it. Nothing has changed; or a disk has failed, and the owner is down with all
+-- its tables.
 pub record GivesRow {D : Type 0} (state : D → DiskState) (w : World) (table : ℕ) (row : List ℕ)
     (old new : StoreHost D) (result : Result (Option WholeRow) NodeFault) : Type 0 where
   pub given : (hosted : world.Hosted) → hosted_at w table ≡ Some hosted
       → IfOk result (IsRowAt hosted.store.disk.items row (current_of hosted.store.disk.items row))
   pub stays : (IsErrOf result Disk → ⊥) → HoldsStore state w new
-  pub fallen : IsErrOf result Disk → IsMoved state old new (store_falls owner w)
+  pub fallen : IsErrOf result Disk → IsMoved state old new (store_falls (owner_of w table) w)

@@ -1,7 +1,8 @@
--- What a Store with its tables holds of the world of the laws: of its tables, their schemas, and whether the Store is
--- down. Packets, clients and holds are whoever's.
-use Rattle.std.specs.Prelude.{◌≡◌, ℕ, ◌≤◌, ◌<◌, Bool, true, false, not, ◌&&◌, List, [], ◌∷◌, length, map, filter}
-use Rattle.std.specs.Prelude.{Option, Some, None}
+-- What the Stores with their tables hold of the world of the laws: of the Stores that are declared, of the tables, their
+-- schemas and owners, and of the Stores that are down. Packets, clients and holds are whoever's.
+use Rattle.std.specs.Prelude.{◌≡◌, ◌≢◌, ℕ, ◌≤◌, ◌<◌, Bool, true, false, not, ◌&&◌, ◌||◌, List, [], ◌∷◌, map}
+use Rattle.std.specs.Prelude.{length, filter, Option, Some, None, is_some}
+use Rattle.std.specs.FinSet as set
 use Rattle.std.specs.Ordering.{nat_cmp}
 use Rattle.std.specs.BTreeMap as tree
 use Rattle.std.specs.Map.{keys_of}
@@ -15,41 +16,44 @@ use Rattle.chunk_store.specs.Standing as chunks
 use Rattle.row_store.specs.Data.{TableData, data_of}
 use Rattle.row_store.specs.Standing as rows
 use Rattle.status_log.specs.Standing as logs
+use Rattle.stab_base.specs.declared.node.Node.{Node}
+use Rattle.stab_base.specs.declared.node.Node.TheVariants as nodes
 use Rattle.row_value.specs.declared.schema.Schema.{Schema}
 use Rattle.store_commit.specs.Standing.{RowsLeave}
 use Rattle.step_tables.specs.StoreMoves.{StoreStep, StoreTask}
 use Rattle.device_laws.specs.Stands.{HasRows}
-use Rattle.store_node.specs.declared.node.StoreOut.{StoreOut}
 use Rattle.step_tables.specs.Travels.{send_of}
 use Rattle.store_node.specs.Due.{fact_of}
 use Rattle.store_node.specs.Node.{IsTable, told_by, sent_by, own_faults, HasNoRows}
-use Rattle.world_tables.specs.World.{World, Outbox, Moved, schema_at, hosted_at, owner, the_store, is_down, history_on}
-use Rattle.world_tables.specs.World.{packets_from, tasks_in}
+use Rattle.world_tables.specs.World.{World, Outbox, Moved, schema_at, hosted_at, owner_of, has_store, tables_of}
+use Rattle.world_tables.specs.World.{has_node, has_unmade, history_on, packets_from, tasks_in}
 use Rattle.world_tables.specs.World as world
 use Rattle.world_tables.specs.Passed.{after_tasks}
 use Rattle.store_host.specs.declared.hosted.Hosted.{Hosted}
+use Rattle.store_host.specs.declared.hosted.TableOut.{TableOut}
 use Rattle.store_host.specs.declared.host.StoreHost.{StoreHost}
+use Rattle.store_host.specs.declared.store.StoreState.{StoreState}
 
 -- ---- a table
 
--- It is the world's table of this number, with nothing left to tell or to send.
-pub record IsHosted {D : Type 0} (state : D → DiskState) (declared : Option Schema) (table : ℕ)
+-- It is the world's table of this number, kept by this Store, with nothing left to tell or to send.
+pub record IsHosted {D : Type 0} (state : D → DiskState) (store : ℕ) (declared : Option Schema) (table : ℕ)
     (hosted : world.Hosted) (it : Hosted D) : Type 0 where
   pub schema : declared ≡ Some it.node.schema
   pub number : it.node.table ≡ table
-  pub store : it.node.store ≡ owner
+  pub owner : it.node.store ≡ store
   pub node : IsTable state it.node hosted.store
   pub made : it.node.is_declared ≡ hosted.made
   pub history : it.history ≡ hosted.history
   pub told : told_by it.node ≡ []
   pub sent : sent_by it.node ≡ []
 
-abbrev pub HostedThere : {D : Type 0} → (D → DiskState) → Option Schema → ℕ → Option world.Hosted
+abbrev pub HostedThere : {D : Type 0} → (D → DiskState) → ℕ → Option Schema → ℕ → Option world.Hosted
     → Option (Hosted D) → Type 0
-HostedThere state schema table None None = Unit {0}
-HostedThere state schema table None (Some it) = ⊥
-HostedThere state schema table (Some hosted) None = ⊥
-HostedThere state schema table (Some hosted) (Some it) = IsHosted state schema table hosted it
+HostedThere state store schema table None None = Unit {0}
+HostedThere state store schema table None (Some it) = ⊥
+HostedThere state store schema table (Some hosted) None = ⊥
+HostedThere state store schema table (Some hosted) (Some it) = IsHosted state store schema table hosted it
 
 -- the table behind a move
 abbrev pub behind_step : world.Hosted → StoreStep → world.Hosted
@@ -58,57 +62,129 @@ behind_step hosted s =
 
 -- ---- all tables
 
--- The tables, by their rising numbers.
-pub record HoldsTables {D : Type 0} (state : D → DiskState) (w : World) (numbers : List ℕ)
-    (tables : tree.BTreeMap ℕ (Hosted D)) : Type 0 where
-  pub there : (table : ℕ) → HostedThere state (schema_at w table) table (hosted_at w table)
+-- The tables, each kept by its owner.
+pub record HoldsTables {D : Type 0} (state : D → DiskState) (w : World) (tables : tree.BTreeMap ℕ (Hosted D))
+    : Type 0 where
+  pub there : (table : ℕ) → HostedThere state (owner_of w table) (schema_at w table) table (hosted_at w table)
       (tree.get nat_cmp tables table)
-  pub all : numbers ≡ keys_of w.tables
-  pub keys : numbers ≡ keys_of tables.entries
-  pub rising : IsStrictlySortedBy nat_cmp numbers
+  pub keys : keys_of w.tables ≡ keys_of tables.entries
+  pub rising : IsStrictlySortedBy nat_cmp (keys_of w.tables)
+
+-- it holds some world
+abbrev pub AreTables : {D : Type 0} → (D → DiskState) → tree.BTreeMap ℕ (Hosted D) → Type 0
+AreTables state tables = (w : World) × HoldsTables state w tables
+
+-- the Store that keeps a table; 0 for one that isn't there
+abbrev pub store_in : {D : Type 0} → Option (Hosted D) → ℕ
+store_in None = 0
+store_in (Some it) = it.node.store
+
+abbrev pub owner_at : {D : Type 0} → tree.BTreeMap ℕ (Hosted D) → ℕ → ℕ
+owner_at tables table = store_in (tree.get nat_cmp tables table)
+
+-- a table that is there is up
+abbrev pub IsUpNode : {D : Type 0} → Option (Hosted D) → Type 0
+IsUpNode None = Unit {0}
+IsUpNode (Some it) = it.node.is_up ≡ true
+
+abbrev pub IsUpTable : {D : Type 0} → tree.BTreeMap ℕ (Hosted D) → ℕ → Type 0
+IsUpTable tables table = IsUpNode (tree.get nat_cmp tables table)
+
+-- ---- the Stores
+
+-- It is the world's Store of this number: with the numbers of its tables, and whether a crash or a disk took it down, or
+-- a table whose declaration failed does.
+pub record IsStoreAt (w : World) (number : ℕ) (store : StoreState) : Type 0 where
+  pub declared : has_store w number ≡ true
+  pub tables : store.tables ≡ tables_of w number
+  pub down : store.is_down ≡ has_node w.downs (nodes.Store number)
+  pub late : store.is_late ≡ has_unmade w number
+
+abbrev pub StoreThere : World → ℕ → Option StoreState → Type 0
+StoreThere w number None = has_store w number ≡ false
+StoreThere w number (Some store) = IsStoreAt w number store
+
+-- each Store that is down is declared
+abbrev pub IsDeclared : World → Node → Type 0
+IsDeclared w (nodes.Store number) = has_store w number ≡ true
+IsDeclared w (nodes.Client c) = ⊥
+IsDeclared w (nodes.Gate gate) = ⊥
+
+abbrev pub AreDeclared : World → List Node → Type 0
+AreDeclared w [] = Unit {0}
+AreDeclared w (node ∷ more) = IsDeclared w node × AreDeclared w more
 
 -- it is up: it has an agenda
 abbrev pub IsUpAt : Option (List StoreTask) → Type 0
 IsUpAt o = (agenda : List StoreTask) × (o ≡ Some agenda)
 
--- all tables are up
-abbrev pub AllUp : World → Type 0
-AllUp w = (table : ℕ) (hosted : world.Hosted) → hosted_at w table ≡ Some hosted → IsUpAt hosted.store.agenda
+-- whether a table is there and up
+abbrev pub is_up_there : Option world.Hosted → Bool
+is_up_there None = false
+is_up_there (Some hosted) = is_some hosted.store.agenda
 
--- a Store whose tables may be down beside it
-pub record HoldsParts {D : Type 0} (state : D → DiskState) (w : World) (host : StoreHost D) : Type 0 where
-  pub number : host.number ≡ owner
-  pub up : host.is_up ≡ not (is_down w the_store)
-  pub tables : HoldsTables state w host.numbers host.tables
+-- each table that was made is up, whose owner no crash and no disk has taken down
+abbrev pub AreUp : World → Type 0
+AreUp w = (table : ℕ) (hosted : world.Hosted) → hosted_at w table ≡ Some hosted → hosted.made ≡ true
+    → has_node w.downs (nodes.Store (owner_of w table)) ≡ false → IsUpAt hosted.store.agenda
 
--- A Store, whose tables are up where it is.
+-- the same, but for the tables of one Store
+abbrev pub AreUpBut : World → ℕ → Type 0
+AreUpBut w number = (table : ℕ) (hosted : world.Hosted) → hosted_at w table ≡ Some hosted → hosted.made ≡ true
+    → has_node w.downs (nodes.Store (owner_of w table)) ≡ false → owner_of w table ≢ number → IsUpAt hosted.store.agenda
+
+-- It has the numbers of the Store's tables.
+abbrev pub IsPartThere : World → ℕ → Option StoreState → Type 0
+IsPartThere w number None = has_store w number ≡ false
+IsPartThere w number (Some store) = (has_store w number ≡ true) × (store.tables ≡ tables_of w number)
+
+-- The Stores, one of which is about to fall: what it says of itself is to be said anew, and its tables may be down.
+pub record HoldsParts {D : Type 0} (state : D → DiskState) (w : World) (number : ℕ) (host : StoreHost D)
+    : Type 0 where
+  pub ring : host.ring ≡ set.from_list w.stores
+  pub own : IsPartThere w number (tree.get nat_cmp host.stores number)
+  pub others : (store : ℕ) → store ≢ number → StoreThere w store (tree.get nat_cmp host.stores store)
+  pub tables : HoldsTables state w host.tables
+  pub downs : AreDeclared w w.downs
+  pub ups : AreUpBut w number
+
+-- The Stores, whose tables are up where they are.
 pub record HoldsStore {D : Type 0} (state : D → DiskState) (w : World) (host : StoreHost D) : Type 0 where
-  pub number : host.number ≡ owner
-  pub up : host.is_up ≡ not (is_down w the_store)
-  pub tables : HoldsTables state w host.numbers host.tables
-  pub ups : is_down w the_store ≡ false → AllUp w
-
--- it holds some world
-abbrev pub AreTables : {D : Type 0} → (D → DiskState) → tree.BTreeMap ℕ (Hosted D) → Type 0
-AreTables state tables = (w : World) × (numbers : List ℕ) × HoldsTables state w numbers tables
-
--- and all are up in it
-abbrev pub AreUpTables : {D : Type 0} → (D → DiskState) → tree.BTreeMap ℕ (Hosted D) → Type 0
-AreUpTables state tables = (w : World) × (numbers : List ℕ) × HoldsTables state w numbers tables × AllUp w
-
-abbrev pub AreParts : {D : Type 0} → (D → DiskState) → StoreHost D → Type 0
-AreParts state host = (w : World) × HoldsParts state w host
+  pub ring : host.ring ≡ set.from_list w.stores
+  pub stores : (store : ℕ) → StoreThere w store (tree.get nat_cmp host.stores store)
+  pub tables : HoldsTables state w host.tables
+  pub downs : AreDeclared w w.downs
+  pub ups : AreUp w
 
 abbrev pub IsStore : {D : Type 0} → (D → DiskState) → StoreHost D → Type 0
 IsStore state host = (w : World) × HoldsStore state w host
 
+-- whether a Store is up; one that isn't declared is down
+abbrev pub is_up_by : Option StoreState → Bool
+is_up_by None = false
+is_up_by (Some store) = not (store.is_down || store.is_late)
+
+abbrev pub is_up_at : {D : Type 0} → StoreHost D → ℕ → Bool
+is_up_at host store = is_up_by (tree.get nat_cmp host.stores store)
+
+-- whether the Store that keeps a table is up; true for a table that isn't there
+abbrev pub is_up_if : {D : Type 0} → StoreHost D → Option (Hosted D) → Bool
+is_up_if host None = true
+is_up_if host (Some it) = is_up_at host it.node.store
+
+abbrev pub is_up_for : {D : Type 0} → StoreHost D → ℕ → Bool
+is_up_for host table = is_up_if host (tree.get nat_cmp host.tables table)
+
 -- ---- what was told and sent
 
-abbrev pub outbox_of : StoreOut → Outbox
-outbox_of out =
-    record { facts = map fact_of out.facts; packets = packets_from the_store (map send_of out.messages) }
+-- what a Store sends is addressed to a node
+abbrev pub outbox_of : TableOut → Outbox
+outbox_of it = record {
+  facts = map fact_of it.out.facts;
+  packets = packets_from (λ table. it.store) (nodes.Store it.store) (map send_of it.out.messages);
+}
 
-abbrev pub outs_in : List StoreOut → List Outbox
+abbrev pub outs_in : List TableOut → List Outbox
 outs_in outs = map outbox_of outs
 
 abbrev pub outs_of : {D : Type 0} → StoreHost D → List Outbox

@@ -1,4 +1,4 @@
-//! A table of the Store, and the history that it has told.
+//! A table at its Store, and the history that it has told.
 ghost use Rattle.std.specs.Prelude.{◌≡◌, ◌⊎◌, ◌<◌, ◌≤◌, ℕ, length, false, [], ◌∷◌, ◌++◌, map, List, Option, Some};
 ghost use Rattle.std.specs.Prelude.{true, filter, IfOk, IfErr, OnOk, OnErr};
 ghost use Rattle.std.specs.Prelude.{IsErrOf};
@@ -18,7 +18,7 @@ ghost use Rattle.row_store.specs.Standing as rows;
 ghost use Rattle.store_commit.specs.Standing.{RowsLeave};
 ghost use Rattle.store_node.specs.Node.{IsNode, IsTable, has_task, own_faults, behind_next, LeavesRows};
 ghost use Rattle.store_node.specs.Node.{HasBlankDisks, HasNoRows};
-ghost use Rattle.world_tables.specs.World.{owner, goes_on, history_on, next_step, tasks_in};
+ghost use Rattle.world_tables.specs.World.{goes_on, history_on, next_step, tasks_in};
 ghost use Rattle.world_tables.specs.World as world;
 ghost use Rattle.store_host.specs.Holds.{IsHosted, outs_in, outbox_of, says_something, disks_at, AreBlankDisks};
 ghost use Rattle.store_host.specs.Steps.{IsTelling, HasTold, moved_at, started_at, new_table, faults_of, HasNodeCause};
@@ -33,7 +33,14 @@ use step_tables::Message;
 use store_node::{NodeFault, ShownRow, StoreFact, StoreOut, TableNode, WholeRow};
 use table_model::History;
 
-/// A table of the Store, and the history that it has told.
+/// What a table told and sent, with the Store that keeps it.
+#[derive(Debug, Drop)]
+pub struct TableOut {
+    pub store: StoreNo,
+    pub out: StoreOut,
+}
+
+/// A table at its Store, and the history that it has told.
 #[derive(Drop)]
 pub(crate) struct Hosted<D: Disk> {
     pub(crate) node: TableNode<D>,
@@ -64,17 +71,17 @@ fn keep_all(history: &mut History, facts: &[StoreFact]) -> Result<(), NodeFault>
 }
 
 // Whether there is a fact or a message.
-fn says_something(out: &StoreOut) -> bool
-    ensures { result ≡ says_something (outbox_of out.now) }
+fn says_something(it: &TableOut) -> bool
+    ensures { result ≡ says_something (outbox_of it.now) }
 {
-    if out.facts.len() != 0 {
+    if it.out.facts.len() != 0 {
         return true;
     }
-    out.messages.len() != 0
+    it.out.messages.len() != 0
 }
 
 // Adds what a table told and sent, unless it is nothing.
-fn put(outs: &mut Sequence<StoreOut>, out: StoreOut) -> Result<(), NodeFault>
+fn put(outs: &mut Sequence<TableOut>, out: TableOut) -> Result<(), NodeFault>
     ensures put { OnOk result (outs_in outs.new ≡ outs_in outs.old ++ filter says_something (outbox_of out ∷ [])) }
     ensures memory { IfErr result (λ e. e ≡ Memory) }
 {
@@ -86,7 +93,7 @@ fn put(outs: &mut Sequence<StoreOut>, out: StoreOut) -> Result<(), NodeFault>
 }
 
 // Adds what a table told and sent where there is room for it, unless it is nothing.
-fn put_at_once(outs: &mut Vec<StoreOut>, out: StoreOut)
+fn put_at_once(outs: &mut Vec<TableOut>, out: TableOut)
     requires { vec_len outs.old < vec_capacity outs.old }
     ensures put { outs_in outs.new.items ≡ outs_in outs.old.items ++ filter says_something (outbox_of out ∷ []) }
     ensures silent { says_something (outbox_of out) ≡ false → outs.new.items ≡ outs.old.items }
@@ -107,11 +114,10 @@ impl<D: Disk + Drop> Hosted<D> {
         row_disk: D,
         log_disk: D,
     ) -> Hosted<D>
-        requires store { store ≡ owner }
         requires size { 0 < schema.chunk }
         requires spelled { HasSchemaSpelling schema }
         requires short { length (table_payload schema 2) ≤ payload_most }
-        ensures hosted { IsHosted D.state (Some schema) table (new_table false false) result }
+        ensures hosted { IsHosted D.state store (Some schema) table (new_table false) result }
         ensures declared { result.node.is_declared ≡ false }
         ensures faults { own_faults D.state result.node ≡ faults_of D.state chunk_disk row_disk log_disk }
         ensures blank { AreBlankDisks D.state chunk_disk row_disk log_disk → HasBlankDisks D.state result.node }
@@ -123,63 +129,55 @@ impl<D: Disk + Drop> Hosted<D> {
         }
     }
 
-    /// Makes the table one with no rows, which is up or down.
-    pub(crate) fn declare(&mut self, is_up: bool) -> Result<(), NodeFault>
+    /// Makes the table one with no rows, which is up.
+    pub(crate) fn declare(&mut self) -> Result<(), NodeFault>
         requires node { IsNode D.state self.old.node }
         requires undeclared { self.old.node.is_declared ≡ false }
-        ensures declared { (declared : Option ASchema) (table : ℕ)
-            → IsHosted D.state declared table (new_table false false) self.old
-            → OnOk result (IsHosted D.state declared table (new_table true is_up) self.new) }
-        ensures refused { (declared : Option ASchema) (table : ℕ)
-            → IsHosted D.state declared table (new_table false false) self.old
-            → OnErr result (IsHosted D.state declared table (new_table false false) self.new) }
+        ensures declared { (store : ℕ) (declared : Option ASchema) (table : ℕ)
+            → IsHosted D.state store declared table (new_table false) self.old
+            → OnOk result (IsHosted D.state store declared table (new_table true) self.new) }
+        ensures refused { (store : ℕ) (declared : Option ASchema) (table : ℕ)
+            → IsHosted D.state store declared table (new_table false) self.old
+            → OnErr result (IsHosted D.state store declared table (new_table false) self.new) }
         ensures cause { HasNodeCause D.state self.old.node self.new.node result }
         // On blank disks a crash leaves no rows.
         ensures blank { HasBlankDisks D.state self.old.node → OnOk result (RowsLeave (behind D.state)
             (λ f. D.images (inner_of f)) self.old.node.devs self.new.node.devs (HasNoRows self.old.node.schema)) }
         ensures schema { OnOk result (self.new.node.schema ≡ self.old.node.schema) }
     {
-        match self.node.declare() {
-            Ok(()) => {
-                if is_up {
-                    return Ok(());
-                }
-                self.node.halt();
-                Ok(())
-            }
-            Err(fault) => Err(fault),
-        }
+        self.node.declare()
     }
 
     // Puts what the node tells and sends behind what was told, and keeps the entries that it tells.
-    fn tell(&mut self, outs: &mut Sequence<StoreOut>) -> Result<(), NodeFault>
-        ensures told { (schema : Option ASchema) (table : ℕ) (hosted : world.Hosted) (step : StoreStep)
-            → IsTelling D.state schema table hosted step self.old
-            → OnOk result (HasTold D.state schema table hosted step self.new outs.old outs.new) }
+    fn tell(&mut self, outs: &mut Sequence<TableOut>) -> Result<(), NodeFault>
+        ensures told { (store : ℕ) (schema : Option ASchema) (table : ℕ) (hosted : world.Hosted) (step : StoreStep)
+            → IsTelling D.state store schema table hosted step self.old
+            → OnOk result (HasTold D.state store schema table hosted step self.new outs.old outs.new) }
         ensures devs { self.new.node.devs ≡ self.old.node.devs }
         ensures memory { IfErr result (λ e. e ≡ Memory) }
     {
+        let store = self.node.store();
         let out = self.node.take_out();
         keep_all(&mut self.history, out.facts.as_slice())?;
-        put(outs, out)
+        put(outs, TableOut { store, out })
     }
 
     /// Does the next write, if there is one, and puts what it tells and sends behind what was told.
-    pub(crate) fn work(&mut self, outs: &mut Sequence<StoreOut>) -> Result<Step, NodeFault>
+    pub(crate) fn work(&mut self, outs: &mut Sequence<TableOut>) -> Result<Step, NodeFault>
         requires { IsNode D.state self.old.node }
-        ensures done { (schema : Option ASchema) (table : ℕ) (hosted : world.Hosted)
-            → IsHosted D.state schema table hosted self.old → IfOk result (λ step.
-            HasTold D.state schema table hosted (moved_at schema table hosted (Work messages.Done))
+        ensures done { (store : ℕ) (schema : Option ASchema) (table : ℕ) (hosted : world.Hosted)
+            → IsHosted D.state store schema table hosted self.old → IfOk result (λ step.
+            HasTold D.state store schema table hosted (moved_at store schema table hosted (Work messages.Done))
             self.new outs.old outs.new × (step ≡ next_step (tasks_in hosted.store.agenda))) }
-        ensures failed { (schema : Option ASchema) (table : ℕ) (hosted : world.Hosted)
-            → IsHosted D.state schema table hosted self.old → IsErrOf result DiskFailed
-            → HasTold D.state schema table hosted (moved_at schema table hosted (Work messages.FailedBefore))
+        ensures failed { (store : ℕ) (schema : Option ASchema) (table : ℕ) (hosted : world.Hosted)
+            → IsHosted D.state store schema table hosted self.old → IsErrOf result DiskFailed
+            → HasTold D.state store schema table hosted (moved_at store schema table hosted (Work messages.FailedBefore))
             self.new outs.old outs.new
-            ⊎ HasTold D.state schema table hosted (moved_at schema table hosted (Work messages.FailedAfter))
+            ⊎ HasTold D.state store schema table hosted (moved_at store schema table hosted (Work messages.FailedAfter))
             self.new outs.old outs.new }
         ensures cause { HasNodeCause D.state self.old.node self.new.node result }
-        ensures left { (schema : Option ASchema) (table : ℕ) (hosted : world.Hosted)
-            → IsHosted D.state schema table hosted self.old → hosted.made ≡ true
+        ensures left { (store : ℕ) (schema : Option ASchema) (table : ℕ) (hosted : world.Hosted)
+            → IsHosted D.state store schema table hosted self.old → hosted.made ≡ true
             → LeavesRows D.state D.images self.old.node self.new.node hosted.store.disk
             (behind_next hosted.store.disk hosted.store.agenda) }
     {
@@ -198,11 +196,11 @@ impl<D: Disk + Drop> Hosted<D> {
     /// Crashes the node inside its next write, if it is up. It takes no memory.
     pub(crate) fn crash(&mut self, calls: u32, pick: u64)
         requires { IsNode D.state self.old.node }
-        ensures crashed { (schema : Option ASchema) (table : ℕ) (hosted : world.Hosted)
-            → IsHosted D.state schema table hosted self.old
-            → HasCrashed D.state schema table hosted calls self.old self.new }
-        ensures left { (schema : Option ASchema) (table : ℕ) (hosted : world.Hosted)
-            → IsHosted D.state schema table hosted self.old → hosted.made ≡ true
+        ensures crashed { (store : ℕ) (schema : Option ASchema) (table : ℕ) (hosted : world.Hosted)
+            → IsHosted D.state store schema table hosted self.old
+            → HasCrashed D.state store schema table hosted calls self.old self.new }
+        ensures left { (store : ℕ) (schema : Option ASchema) (table : ℕ) (hosted : world.Hosted)
+            → IsHosted D.state store schema table hosted self.old → hosted.made ≡ true
             → LeavesRows D.state D.images self.old.node self.new.node hosted.store.disk
             (behind_next hosted.store.disk hosted.store.agenda) }
     {
@@ -214,31 +212,31 @@ impl<D: Disk + Drop> Hosted<D> {
     /// Takes the node down beside any write. It takes no memory.
     pub(crate) fn halt(&mut self)
         requires { IsNode D.state self.old.node }
-        ensures halted { (schema : Option ASchema) (table : ℕ) (hosted : world.Hosted)
-            → IsHosted D.state schema table hosted self.old
-            → HasTold D.state schema table hosted (moved_at schema table hosted (Crash messages.FailedBefore))
+        ensures halted { (store : ℕ) (schema : Option ASchema) (table : ℕ) (hosted : world.Hosted)
+            → IsHosted D.state store schema table hosted self.old
+            → HasTold D.state store schema table hosted (moved_at store schema table hosted (Crash messages.FailedBefore))
             self.new [] [] }
         ensures counted { own_faults D.state self.new.node ≡ own_faults D.state self.old.node }
-        ensures left { (schema : Option ASchema) (table : ℕ) (hosted : world.Hosted)
-            → IsHosted D.state schema table hosted self.old → hosted.made ≡ true
+        ensures left { (store : ℕ) (schema : Option ASchema) (table : ℕ) (hosted : world.Hosted)
+            → IsHosted D.state store schema table hosted self.old → hosted.made ≡ true
             → LeavesRows D.state D.images self.old.node self.new.node hosted.store.disk hosted.store.disk }
     {
         self.node.halt();
     }
 
     /// Starts the node, and puts what it tells behind what was told.
-    pub(crate) fn start(&mut self, outs: &mut Sequence<StoreOut>) -> Result<(), NodeFault>
+    pub(crate) fn start(&mut self, outs: &mut Sequence<TableOut>) -> Result<(), NodeFault>
         requires { IsNode D.state self.old.node }
-        ensures started { (schema : Option ASchema) (table : ℕ) (hosted : world.Hosted)
-            → IsHosted D.state schema table hosted self.old
-            → OnOk result (HasTold D.state schema table (record hosted { made = true })
-            (started_at schema table hosted) self.new outs.old outs.new) }
-        ensures refused { (schema : Option ASchema) (table : ℕ) (hosted : world.Hosted)
-            → IsHosted D.state schema table hosted self.old → IsErrOf result DiskFailed
-            → IsHosted D.state schema table hosted self.new × (outs.new ≡ outs.old) }
+        ensures started { (store : ℕ) (schema : Option ASchema) (table : ℕ) (hosted : world.Hosted)
+            → IsHosted D.state store schema table hosted self.old
+            → OnOk result (HasTold D.state store schema table (record hosted { made = true })
+            (started_at store schema table hosted) self.new outs.old outs.new) }
+        ensures refused { (store : ℕ) (schema : Option ASchema) (table : ℕ) (hosted : world.Hosted)
+            → IsHosted D.state store schema table hosted self.old → IsErrOf result DiskFailed
+            → IsHosted D.state store schema table hosted self.new × (outs.new ≡ outs.old) }
         ensures cause { HasNodeCause D.state self.old.node self.new.node result }
-        ensures left { (schema : Option ASchema) (table : ℕ) (hosted : world.Hosted)
-            → IsHosted D.state schema table hosted self.old → hosted.made ≡ true
+        ensures left { (store : ℕ) (schema : Option ASchema) (table : ℕ) (hosted : world.Hosted)
+            → IsHosted D.state store schema table hosted self.old → hosted.made ≡ true
             → LeavesRows D.state D.images self.old.node self.new.node hosted.store.disk hosted.store.disk }
     {
         match self.node.start() {
@@ -250,26 +248,27 @@ impl<D: Disk + Drop> Hosted<D> {
     // Takes a message where no write is to be done, with room for what is sent.
     fn take(
         &mut self,
-        outs: &mut Vec<StoreOut>,
+        outs: &mut Vec<TableOut>,
         from: Node,
         message: &Message,
     ) -> Result<(), NodeFault>
         requires node { IsNode D.state self.old.node }
         requires up { self.old.node.is_up ≡ true }
         requires idle { (s : TableStore) → IsTable D.state self.old.node s → has_task s.agenda ≡ false }
-        ensures taken { (schema : Option ASchema) (table : ℕ) (hosted : world.Hosted)
-            → IsHosted D.state schema table hosted self.old
-            → HasTaken D.state schema table hosted from message.now self.old self.new outs.old.items outs.new.items
+        ensures taken { (store : ℕ) (schema : Option ASchema) (table : ℕ) (hosted : world.Hosted)
+            → IsHosted D.state store schema table hosted self.old
+            → HasTaken D.state store schema table hosted from message.now self.old self.new outs.old.items outs.new.items
             result }
         ensures cause { HasNodeTakeCause D.state self.old.node self.new.node result }
-        ensures left { (schema : Option ASchema) (table : ℕ) (hosted : world.Hosted)
-            → IsHosted D.state schema table hosted self.old → hosted.made ≡ true
+        ensures left { (store : ℕ) (schema : Option ASchema) (table : ℕ) (hosted : world.Hosted)
+            → IsHosted D.state store schema table hosted self.old → hosted.made ≡ true
             → LeavesRows D.state D.images self.old.node self.new.node hosted.store.disk hosted.store.disk }
     {
         outs.reserve(1)?;
         self.node.deliver(from, message)?;
+        let store = self.node.store();
         let out = self.node.take_out();
-        put_at_once(outs, out);
+        put_at_once(outs, TableOut { store, out });
         Ok(())
     }
 
@@ -278,18 +277,18 @@ impl<D: Disk + Drop> Hosted<D> {
     pub(crate) fn deliver(
         &mut self,
         alloc: Global,
-        outs: &mut Sequence<StoreOut>,
+        outs: &mut Sequence<TableOut>,
         from: Node,
         message: &Message,
     ) -> Result<(), NodeFault>
         requires node { IsNode D.state self.old.node }
         requires up { self.old.node.is_up ≡ true }
-        ensures taken { (schema : Option ASchema) (table : ℕ) (hosted : world.Hosted)
-            → IsHosted D.state schema table hosted self.old
-            → HasTaken D.state schema table hosted from message.now self.old self.new outs.old outs.new result }
+        ensures taken { (store : ℕ) (schema : Option ASchema) (table : ℕ) (hosted : world.Hosted)
+            → IsHosted D.state store schema table hosted self.old
+            → HasTaken D.state store schema table hosted from message.now self.old self.new outs.old outs.new result }
         ensures cause { HasNodeTakeCause D.state self.old.node self.new.node result }
-        ensures left { (schema : Option ASchema) (table : ℕ) (hosted : world.Hosted)
-            → IsHosted D.state schema table hosted self.old → hosted.made ≡ true
+        ensures left { (store : ℕ) (schema : Option ASchema) (table : ℕ) (hosted : world.Hosted)
+            → IsHosted D.state store schema table hosted self.old → hosted.made ≡ true
             → LeavesRows D.state D.images self.old.node self.new.node hosted.store.disk hosted.store.disk }
     {
         if self.node.is_busy() {
@@ -305,12 +304,12 @@ impl<D: Disk + Drop> Hosted<D> {
     pub(crate) fn show(&mut self, row: &RowId) -> Result<Option<ShownRow>, NodeFault>
         requires node { IsNode D.state self.old.node }
         requires up { self.old.node.is_up ≡ true }
-        ensures shown { (schema : Option ASchema) (table : ℕ) (hosted : world.Hosted)
-            → IsHosted D.state schema table hosted self.old
-            → HasShown D.state schema table hosted row.now self.new result }
+        ensures shown { (store : ℕ) (schema : Option ASchema) (table : ℕ) (hosted : world.Hosted)
+            → IsHosted D.state store schema table hosted self.old
+            → HasShown D.state store schema table hosted row.now self.new result }
         ensures cause { HasNodeCause D.state self.old.node self.new.node result }
-        ensures left { (schema : Option ASchema) (table : ℕ) (hosted : world.Hosted)
-            → IsHosted D.state schema table hosted self.old → hosted.made ≡ true
+        ensures left { (store : ℕ) (schema : Option ASchema) (table : ℕ) (hosted : world.Hosted)
+            → IsHosted D.state store schema table hosted self.old → hosted.made ≡ true
             → LeavesRows D.state D.images self.old.node self.new.node hosted.store.disk hosted.store.disk }
     {
         self.node.show(row)
@@ -320,12 +319,12 @@ impl<D: Disk + Drop> Hosted<D> {
     pub(crate) fn row(&mut self, row: &RowId) -> Result<Option<WholeRow>, NodeFault>
         requires node { IsNode D.state self.old.node }
         requires up { self.old.node.is_up ≡ true }
-        ensures given { (schema : Option ASchema) (table : ℕ) (hosted : world.Hosted)
-            → IsHosted D.state schema table hosted self.old
-            → HasGiven D.state schema table hosted row.now self.new result }
+        ensures given { (store : ℕ) (schema : Option ASchema) (table : ℕ) (hosted : world.Hosted)
+            → IsHosted D.state store schema table hosted self.old
+            → HasGiven D.state store schema table hosted row.now self.new result }
         ensures cause { HasNodeCause D.state self.old.node self.new.node result }
-        ensures left { (schema : Option ASchema) (table : ℕ) (hosted : world.Hosted)
-            → IsHosted D.state schema table hosted self.old → hosted.made ≡ true
+        ensures left { (store : ℕ) (schema : Option ASchema) (table : ℕ) (hosted : world.Hosted)
+            → IsHosted D.state store schema table hosted self.old → hosted.made ≡ true
             → LeavesRows D.state D.images self.old.node self.new.node hosted.store.disk hosted.store.disk }
     {
         self.node.row(row)

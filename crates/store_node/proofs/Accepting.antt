@@ -21,25 +21,25 @@ use Rattle.store_node.proofs.Following.{same_step}
 
 -- ---- tasks that tell and send what is owed, whatever their places are
 
-abbrev TasksTell : ℕ → ℕ → Owed → List StoreTask → Type 0
-TasksTell store table o [] = Unit {0}
-TasksTell store table o (task ∷ tasks) = ((is_last : Bool) → task.facts ≡ told_at store table o (moves.step_of task.change) is_last)
-    × (task.sends ≡ sent_at table o (moves.step_of task.change)) × TasksTell store table o tasks
+abbrev TasksTell : ℕ → Owed → List StoreTask → Type 0
+TasksTell table o [] = Unit {0}
+TasksTell table o (task ∷ tasks) = ((is_last : Bool) → task.facts ≡ told_at table o (moves.step_of task.change) is_last)
+    × (task.sends ≡ sent_at table o (moves.step_of task.change)) × TasksTell table o tasks
 
-pub tell_owed : (store table : ℕ) (o : Owed) (schema : Schema) (d : Devs) (ws : List Write) (disk : StoreDisk) (tasks : List StoreTask) → Follows schema d ws disk tasks → TasksTell store table o tasks → AreOwed store table o ws tasks
-tell_owed store table o schema d [] disk [] f t = tt
-tell_owed store table o schema d [] disk (task ∷ tasks) f t = absurd f
-tell_owed store table o schema d (w ∷ ws) disk [] f t = absurd f
-tell_owed store table o schema d (w ∷ ws) disk (task ∷ tasks) f t =
+pub tell_owed : (table : ℕ) (o : Owed) (schema : Schema) (d : Devs) (ws : List Write) (disk : StoreDisk) (tasks : List StoreTask) → Follows schema d ws disk tasks → TasksTell table o tasks → AreOwed table o ws tasks
+tell_owed table o schema d [] disk [] f t = tt
+tell_owed table o schema d [] disk (task ∷ tasks) f t = absurd f
+tell_owed table o schema d (w ∷ ws) disk [] f t = absurd f
+tell_owed table o schema d (w ∷ ws) disk (task ∷ tasks) f t =
     let name = same_step schema.chunk disk.items w task.change f.1 in (
-      t.0 (is_last_of ws) ∙ sym (ap (λ s. told_at store table o s (is_last_of ws)) name),
+      t.0 (is_last_of ws) ∙ sym (ap (λ s. told_at table o s (is_last_of ws)) name),
       t.1 ∙ sym (ap (λ s. sent_at table o s) name),
-      tell_owed store table o schema (changed_by d w) ws (changed disk task.change) tasks f.2 t.2,
+      tell_owed table o schema (changed_by d w) ws (changed disk task.change) tasks f.2 t.2,
     )
 
 -- ---- the tasks of an update
 
-module _ (store table : ℕ) (from : Node) (request : Request) (item : Stored) (of_table : request.table ≡ table) (is_client : item.entry.client ≡ request.client) (is_row : item.entry.row ≡ request.row) (is_number : item.entry.number ≡ request.number) where
+module _ (table : ℕ) (from : Node) (request : Request) (item : Stored) (of_table : request.table ≡ table) (is_client : item.entry.client ≡ request.client) (is_row : item.entry.row ≡ request.row) (is_number : item.entry.number ≡ request.number) where
   abbrev o : Owed
   o = owed.Update from item.entry
 
@@ -49,15 +49,15 @@ module _ (store table : ℕ) (from : Node) (request : Request) (item : Stored) (
   answered : responded from request (messages.Accepted item.entry.version) ≡ accepted table from item.entry
   answered = rw (of_table, is_client, is_row, is_number) refl
 
-  tail_tells : (names : List ChunkName) → TasksTell store table o (drops names ++ record { change = Close; facts = []; sends = responded from request (messages.Accepted item.entry.version) ∷ [] } ∷ [])
+  tail_tells : (names : List ChunkName) → TasksTell table o (drops names ++ record { change = Close; facts = []; sends = responded from request (messages.Accepted item.entry.version) ∷ [] } ∷ [])
   tail_tells [] = ((λ b. refl), ap (λ s. s ∷ []) answered, tt)
   tail_tells (name ∷ names) = ((λ b. refl), refl, tail_tells names)
 
-  puts_tell : (names : List ChunkName) (tasks : List StoreTask) → TasksTell store table o tasks → TasksTell store table o (puts names ++ tasks)
+  puts_tell : (names : List ChunkName) (tasks : List StoreTask) → TasksTell table o tasks → TasksTell table o (puts names ++ tasks)
   puts_tell [] tasks t = t
   puts_tell (name ∷ names) tasks t = ((λ b. refl), refl, puts_tell names tasks t)
 
-  pub accepting_tells : (size : ℕ) (items : List Stored) → TasksTell store table o (accepting size table items from request item)
+  pub accepting_tells : (size : ℕ) (items : List Stored) → TasksTell table o (accepting size table items from request item)
   accepting_tells size items =
       ((λ b. refl), refl, puts_tell (new_names size item) _ ((λ b. refl), refl, tail_tells (old_names size items item)))
 

@@ -90,7 +90,7 @@ module _ {D : Type 0} (state : D → DiskState) (images : D → ℕ → List ℕ
 
   pub recover_done : (old : TableNode D) (reserved facts : Gathered StoreFact) (disk : StoreDisk) (agenda : Option (List StoreTask)) → IsTable state old (at disk agenda) → old.is_declared ≡ true → old.is_up ≡ false
       → (table : TableDevs (FuseDisk D)) (recovery : Recovery) → BeginsStart st im old.devs table (Ok recovery) → HasRoom facts 1 → map fact_of facts.items.items ≡ told_by old ++ facts_found old.table recovery
-      → Recovers state images (at disk agenda) old (record old { is_up = true; devs = table; owed = owed.Start; facts = facts }) (Ok tt)
+      → Recovers state images (at disk agenda) old (record old { is_up = true; devs = table; owed = owed.Start old.store; facts = facts }) (Ok tt)
   recover_done old reserved facts disk None t declared down table recovery k room told = recovered_at state images old disk t declared table recovery k facts room told
   recover_done old reserved facts disk (Some tasks) t declared down table recovery k room told = let up = t.at.0 in absurd cc
 

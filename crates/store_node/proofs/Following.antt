@@ -97,8 +97,8 @@ module _ {D : Type 0} (state : D → DiskState) where
     pub follows_w : Follows old.schema (devs (behind state) old.devs) (w ∷ ws) disk (task ∷ tasks)
     follows_w = subst (λ (l : List Write). Follows old.schema (devs (behind state) old.devs) l disk (task ∷ tasks)) is h.follows
 
-    pub owed_w : AreOwed old.store old.table old.owed (w ∷ ws) (task ∷ tasks)
-    owed_w = subst (λ (l : List Write). AreOwed old.store old.table old.owed l (task ∷ tasks)) is h.owed
+    pub owed_w : AreOwed old.table old.owed (w ∷ ws) (task ∷ tasks)
+    owed_w = subst (λ (l : List Write). AreOwed old.table old.owed l (task ∷ tasks)) is h.owed
 
     pub step_w : step_of w ≡ moves.step_of task.change
     step_w = same_step old.schema.chunk disk.items w task.change follows_w.1
@@ -115,7 +115,7 @@ module _ {D : Type 0} (state : D → DiskState) where
       ready = subst (λ (l : List Write). IsReady (behind state) table l) (sym rest) k.ready;
       follows = subst (λ (l : List Write). Follows old.schema (devs (behind state) table) l (changed disk task.change) tasks) (sym rest) (subst (λ (d : Devs). Follows old.schema d ws (changed disk task.change) tasks) (sym k.devs_are) follows_w.2);
       well = h.well.1;
-      owed = subst (λ (l : List Write). AreOwed old.store old.table old.owed l tasks) (sym rest) owed_w.2;
+      owed = subst (λ (l : List Write). AreOwed old.table old.owed l tasks) (sym rest) owed_w.2;
       fact_room = fact_room;
       message_room = message_room;
       few_facts = let few = h.few_facts in omega arith;

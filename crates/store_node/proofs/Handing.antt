@@ -66,13 +66,13 @@ module _ {D : Type 0} (state : D → DiskState) (images : D → ℕ → List ℕ
   -- there is room for what the next write tells and sends
   pub fact_due_room : (node : TableNode D) (l : List Write) → writes_of node.devs ≡ l → (writes_of node.devs ≡ [] → ⊥) → (disk : StoreDisk) (agenda : Option (List StoreTask)) → IsTable state node (at disk agenda) → node.is_up ≡ true
       → (table : TableDevs (FuseDisk D)) (step : Step) (is_last : Bool) → WorksOn st im node.devs table (Ok step) l → is_last ≡ is_last_of (writes_of table)
-      → HasRoom node.facts (length (told_at node.store node.table node.owed step is_last))
+      → HasRoom node.facts (length (told_at node.table node.owed step is_last))
   fact_due_room node l is some disk None t up table step is_last k last = let no = t.at.0 in absurd cc
   fact_due_room node [] is some disk (Some tasks) t up table step is_last k last = absurd (some is)
   fact_due_room node (w ∷ ws) is some disk (Some []) t up table step is_last k last = absurd (subst (λ (l : List Write). Follows node.schema (devs (behind state) node.devs) l disk []) is t.at.1.follows)
   fact_due_room node (w ∷ ws) is some disk (Some (task ∷ tasks)) t up table step is_last k last =
       let owed = owed_w state images node disk task tasks w ws is t.at.1 in
-      let facts_are : task.facts ≡ told_at node.store node.table node.owed step is_last = owed.0 ∙ sym (ap (λ (s : Step). told_at node.store node.table node.owed s is_last) k.2 ∙ ap (λ (b : Bool). told_at node.store node.table node.owed (step_of w) b) (last ∙ ap is_last_of k.1)) in
+      let facts_are : task.facts ≡ told_at node.table node.owed step is_last = owed.0 ∙ sym (ap (λ (s : Step). told_at node.table node.owed s is_last) k.2 ∙ ap (λ (b : Bool). told_at node.table node.owed (step_of w) b) (last ∙ ap is_last_of k.1)) in
       subst (λ (l : List Fact). HasRoom node.facts (length l)) facts_are (less_room node.facts (length task.facts) (facts_in tasks) t.at.1.fact_room)
 
   pub message_due_room : (node : TableNode D) (l : List Write) → writes_of node.devs ≡ l → (writes_of node.devs ≡ [] → ⊥) → (disk : StoreDisk) (agenda : Option (List StoreTask)) → IsTable state node (at disk agenda) → node.is_up ≡ true
@@ -130,3 +130,39 @@ module _ {D : Type 0} (state : D → DiskState) (images : D → ℕ → List ℕ
   busy_is node disk None false t some = absurd (some t.at.1.idle)
   busy_is node disk (Some []) false t some = absurd (some (no_write node.schema (devs (behind state) node.devs) (writes_of node.devs) disk t.at.1.follows))
   busy_is node disk (Some (task ∷ tasks)) false t some = refl
+
+-- another Store keeps the table
+pub moved_node : {D : Type 0} (state : D → DiskState) (node : TableNode D) (store : ℕ) (disk : StoreDisk) (agenda : Option (List StoreTask))
+    → IsTable state node (record { disk = disk; agenda = agenda }) → IsTable state (record node { store = store }) (record { disk = disk; agenda = agenda })
+moved_node state node store disk None t =
+    let r = t.at.1 in
+    record {
+      size = t.size;
+      spelled = t.spelled;
+      short = t.short;
+      at = (t.at.0, record { up = r.up; fresh = r.fresh; idle = r.idle; synced = r.synced; sound = r.sound; stands = r.stands; fit = r.fit; nothing = r.nothing });
+    }
+moved_node state node store disk (Some tasks) t =
+    let h = t.at.1 in
+    record {
+      size = t.size;
+      spelled = t.spelled;
+      short = t.short;
+      at = (
+        t.at.0,
+        record {
+          declared = h.declared;
+          up = h.up;
+          fresh = h.fresh;
+          hidden = h.hidden;
+          ready = h.ready;
+          follows = h.follows;
+          well = h.well;
+          owed = h.owed;
+          fact_room = h.fact_room;
+          message_room = h.message_room;
+          few_facts = h.few_facts;
+          few_messages = h.few_messages;
+        },
+      );
+    }

@@ -115,7 +115,7 @@ module _ {D : Type 0} (state : D → DiskState) (images : D → ℕ → List ℕ
                   ready = subst (λ (l : List Write). IsReady st table l) (sym k.idle) k.ready;
                   follows = subst (λ (l : List Write). Follows old.schema (devs st table) l nothing_stored []) (sym k.idle) (subst (λ (d : Devs). Stands old.schema d nothing_stored) (sym k.held) (nothing_stands old.schema));
                   well = (tt, refl);
-                  owed = subst (λ (l : List Write). AreOwed old.store old.table owed.Nothing l []) (sym k.idle) tt;
+                  owed = subst (λ (l : List Write). AreOwed old.table owed.Nothing l []) (sym k.idle) tt;
                   fact_room = no_room old.facts;
                   message_room = no_room old.messages;
                   few_facts = omega arith;
@@ -197,10 +197,10 @@ module _ {D : Type 0} (state : D → DiskState) (images : D → ℕ → List ℕ
 
     -- the node with these facts
     abbrev new : Gathered StoreFact → TableNode D
-    new facts = record old { is_up = true; devs = table; owed = owed.Start; facts = facts }
+    new facts = record old { is_up = true; devs = table; owed = owed.Start old.store; facts = facts }
 
     working : (facts : Gathered StoreFact) (tasks : List StoreTask) → Follows old.schema (devs st old.devs) (recovery_writes (rising disk.left) (is_some (devs st old.devs).pending)) disk tasks
-        → AreOwed old.store old.table owed.Start (recovery_writes (rising disk.left) (is_some (devs st old.devs).pending)) tasks → GoesWell old.schema disk tasks → facts_in tasks ≡ 1 → sends_in tasks ≡ 0 → HasRoom facts 1
+        → AreOwed old.table (owed.Start old.store) (recovery_writes (rising disk.left) (is_some (devs st old.devs).pending)) tasks → GoesWell old.schema disk tasks → facts_in tasks ≡ 1 → sends_in tasks ≡ 0 → HasRoom facts 1
         → IsTable state (new facts) (at disk (Some tasks))
     working facts tasks follows owes well one none room = record {
       size = t.size;
@@ -216,7 +216,7 @@ module _ {D : Type 0} (state : D → DiskState) (images : D → ℕ → List ℕ
           ready = k.ready;
           follows = subst (λ (l : List Write). Follows old.schema (devs st table) l disk tasks) (sym writes) (subst (λ (d : Devs). Follows old.schema d (recovery_writes (rising disk.left) (is_some (devs st old.devs).pending)) disk tasks) (sym k.same) follows);
           well = well;
-          owed = subst (λ (l : List Write). AreOwed old.store old.table owed.Start l tasks) (sym writes) owes;
+          owed = subst (λ (l : List Write). AreOwed old.table (owed.Start old.store) l tasks) (sym writes) owes;
           fact_room = subst (λ (n : ℕ). HasRoom facts n) (sym one) room;
           message_room = subst (λ (n : ℕ). HasRoom old.messages n) (sym none) (no_room old.messages);
           few_facts = omega (arith, one);
@@ -232,7 +232,7 @@ module _ {D : Type 0} (state : D → DiskState) (images : D → ℕ → List ℕ
         let d = devs st old.devs in
         let e = open_entry old.schema d disk stands pending is in
         let some : is_some d.pending ≡ true = ap is_some e.1 in
-        let owes = subst (λ (b : Bool). AreOwed old.store old.table owed.Start (recovery_writes (rising disk.left) b) (recovering old.store old.table disk)) (sym some) (recovering_owed old.store old.table disk) in
+        let owes = subst (λ (b : Bool). AreOwed old.table (owed.Start old.store) (recovery_writes (rising disk.left) b) (recovering old.store old.table disk)) (sym some) (recovering_owed old.store old.table disk) in
         let table_is = working facts (recovering old.store old.table disk) (open_follows old.schema d disk old.store old.table pending stands is) owes (recovering_well old.schema old.store old.table disk t.at.1.fit) (recovering_facts old.store old.table disk) (recovering_sends old.store old.table disk) room in
         record {
           table = subst (λ (s : TableStore). IsTable state (new facts) s) (sym (step_store old.schema d disk stands old.store old.table pending)) table_is;
@@ -247,7 +247,7 @@ module _ {D : Type 0} (state : D → DiskState) (images : D → ℕ → List ℕ
         let d = devs st old.devs in
         let n = none_open old.schema d disk stands none in
         let no : is_some d.pending ≡ false = ap is_some n.0 in
-        let owes = subst (λ (b : Bool). AreOwed old.store old.table owed.Start (recovery_writes (rising disk.left) b) (reopening old.store old.table)) (sym no) (subst (λ (l : List ChunkName). AreOwed old.store old.table owed.Start (recovery_writes (rising l) false) (reopening old.store old.table)) (sym n.1) (reopening_owed old.store old.table)) in
+        let owes = subst (λ (b : Bool). AreOwed old.table (owed.Start old.store) (recovery_writes (rising disk.left) b) (reopening old.store old.table)) (sym no) (subst (λ (l : List ChunkName). AreOwed old.table (owed.Start old.store) (recovery_writes (rising l) false) (reopening old.store old.table)) (sym n.1) (reopening_owed old.store old.table)) in
         record {
           table = working facts (reopening old.store old.table) (closed_follows old.schema d disk old.store old.table stands none) owes (reopening_well old.schema old.store old.table disk t.at.1.fit none) refl refl room;
           told = told ∙ ap (λ (l : List Fact). told_by old ++ l) (found_none old.schema d disk stands old.store old.table none recovery k.answer);

@@ -133,7 +133,7 @@ module _ {D : Type 0} (state : D → DiskState) (images : D → ℕ → List ℕ
         ready = ready;
         follows = subst (λ (l : List Write). Follows node.schema (devs st table) l disk tasks) (sym writes) (subst (λ (d : Devs). Follows node.schema d (writes_of node.devs) disk tasks) (sym (k.same not_disk)) h.follows);
         well = h.well;
-        owed = subst (λ (l : List Write). AreOwed node.store node.table node.owed l tasks) (sym writes) h.owed;
+        owed = subst (λ (l : List Write). AreOwed node.table node.owed l tasks) (sym writes) h.owed;
         fact_room = fact_room;
         message_room = message_room;
         few_facts = h.few_facts;
@@ -211,8 +211,8 @@ module _ {D : Type 0} (state : D → DiskState) (images : D → ℕ → List ℕ
         let writes = b.writes_are ∙ ap (λ (v : ℕ). update_writes (entry_for here v (update_for size q)) (update_for size q).fresh (stored_for here v (update_for size q))) b.version_is in
         let ready = k.ready (λ is. cc) in
         let now = subst (λ (l : List Write). Follows old.schema here l disk (accepting size old.table disk.items from q item)) (sym writes) follows in
-        let one_fact = accepting_facts old.store old.table from q item of_table refl refl refl size disk.items in
-        let one_send = accepting_sends old.store old.table from q item of_table refl refl refl size disk.items in
+        let one_fact = accepting_facts old.table from q item of_table refl refl refl size disk.items in
+        let one_send = accepting_sends old.table from q item of_table refl refl refl size disk.items in
         record {
           done = record {
             table = record {
@@ -229,8 +229,8 @@ module _ {D : Type 0} (state : D → DiskState) (images : D → ℕ → List ℕ
                   ready = ready;
                   follows = subst (λ (d : Devs). Follows old.schema d (writes_of table) disk (accepting size old.table disk.items from q item)) (sym (k.same (λ is. cc))) now;
                   well = accepting_well old.schema size old.table disk from q item h.well.0 fits;
-                  owed = tell_owed old.store old.table (owed.Update from item.entry) old.schema here (writes_of table) disk (accepting size old.table disk.items from q item) now
-                      (accepting_tells old.store old.table from q item of_table refl refl refl size disk.items);
+                  owed = tell_owed old.table (owed.Update from item.entry) old.schema here (writes_of table) disk (accepting size old.table disk.items from q item) now
+                      (accepting_tells old.table from q item of_table refl refl refl size disk.items);
                   fact_room = subst (λ (n : ℕ). HasRoom facts n) (sym one_fact) fact_room;
                   message_room = subst (λ (n : ℕ). HasRoom messages n) (sym one_send) message_room;
                   few_facts = omega (arith, one_fact);

@@ -31,22 +31,22 @@ use Rattle.store_node.specs.Node.{AreOwed, AreFit, GoesWell, facts_in, sends_in}
 -- ---- the tasks
 
 -- the writes behind the openings, as they tell and send
-drops_owed : (store table : ℕ) (names : List ChunkName) → AreOwed store table owed.Start (agendas.drops names ++ CloseEntry ∷ []) (drops names ++ ends_with Close (facts.StoreRecovered store table) ∷ [])
+drops_owed : (store table : ℕ) (names : List ChunkName) → AreOwed table (owed.Start store) (agendas.drops names ++ CloseEntry ∷ []) (drops names ++ ends_with Close (facts.StoreRecovered store table) ∷ [])
 drops_owed store table [] = (refl, refl, tt)
 drops_owed store table (name ∷ names) = (last names, refl, drops_owed store table names)
   where
-    last : (more : List ChunkName) → [] ≡ told_at store table owed.Start steps.ChunkDrop (is_last_of (agendas.drops more ++ CloseEntry ∷ []))
+    last : (more : List ChunkName) → [] ≡ told_at table (owed.Start store) steps.ChunkDrop (is_last_of (agendas.drops more ++ CloseEntry ∷ []))
     last [] = refl
     last (n ∷ more) = refl
 
-pub recovering_owed : (store table : ℕ) (disk : StoreDisk) → AreOwed store table owed.Start (recovery_writes (rising disk.left) true) (recovering store table disk)
+pub recovering_owed : (store table : ℕ) (disk : StoreDisk) → AreOwed table (owed.Start store) (recovery_writes (rising disk.left) true) (recovering store table disk)
 recovering_owed store table disk = (refl, refl, (refl, refl, (last (rising disk.left), refl, drops_owed store table (rising disk.left))))
   where
-    last : (more : List ChunkName) → [] ≡ told_at store table owed.Start steps.OpenLog (is_last_of (agendas.drops more ++ CloseEntry ∷ []))
+    last : (more : List ChunkName) → [] ≡ told_at table (owed.Start store) steps.OpenLog (is_last_of (agendas.drops more ++ CloseEntry ∷ []))
     last [] = refl
     last (n ∷ more) = refl
 
-pub reopening_owed : (store table : ℕ) → AreOwed store table owed.Start (recovery_writes [] false) (reopening store table)
+pub reopening_owed : (store table : ℕ) → AreOwed table (owed.Start store) (recovery_writes [] false) (reopening store table)
 reopening_owed store table = (refl, refl, (refl, refl, (refl, refl, tt)))
 
 drops_facts : (names : List ChunkName) (fact : Fact) → facts_in (drops names ++ ends_with Close fact ∷ []) ≡ 1

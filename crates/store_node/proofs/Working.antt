@@ -103,15 +103,15 @@ module _ {D : Type 0} (state : D → DiskState) (images : D → ℕ → List ℕ
 
     done_at : (table : TableDevs (FuseDisk D)) (facts : Gathered StoreFact) (messages : Gathered (Option Node × Message)) (step : Step) (is_last : Bool)
         → commits.Works st im w ws old.devs table (Ok step) → writes_of table ≡ ws → step ≡ step_of w → KeepsUnset st old.devs table → NothingHidden table → is_last ≡ is_last_of ws
-        → map fact_of facts.items.items ≡ told_by old ++ told_at old.store old.table old.owed step is_last
+        → map fact_of facts.items.items ≡ told_by old ++ told_at old.table old.owed step is_last
         → map send_of messages.items.items ≡ sent_by old ++ sent_at old.table old.owed step
-        → ((n : ℕ) → HasRoom old.facts (length (told_at old.store old.table old.owed step is_last) + n) → HasRoom facts n)
+        → ((n : ℕ) → HasRoom old.facts (length (told_at old.table old.owed step is_last) + n) → HasRoom facts n)
         → ((n : ℕ) → HasRoom old.messages (length (sent_at old.table old.owed step) + n) → HasRoom messages n)
         → Works state images (at disk (Some (task ∷ tasks))) old (record old { devs = table; facts = facts; messages = messages }) (Ok step)
     done_at table facts messages step is_last k rest name keeps hidden last told sent fact_room message_room =
         let h = t.at.1 in
         let owed = owed_w state images old disk task tasks w ws is h in
-        let facts_are : task.facts ≡ told_at old.store old.table old.owed step is_last = owed.0 ∙ sym (ap (λ (s : Step). told_at old.store old.table old.owed s is_last) name ∙ ap (λ (b : Bool). told_at old.store old.table old.owed (step_of w) b) last) in
+        let facts_are : task.facts ≡ told_at old.table old.owed step is_last = owed.0 ∙ sym (ap (λ (s : Step). told_at old.table old.owed s is_last) name ∙ ap (λ (b : Bool). told_at old.table old.owed (step_of w) b) last) in
         let sends_are : task.sends ≡ sent_at old.table old.owed step = owed.1 ∙ sym (ap (λ (s : Step). sent_at old.table old.owed s) name) in
         let fact_left = fact_room (facts_in tasks) (subst (λ (l : List Fact). HasRoom old.facts (length l + facts_in tasks)) facts_are h.fact_room) in
         let message_left = message_room (sends_in tasks) (subst (λ (l : List Send). HasRoom old.messages (length l + sends_in tasks)) sends_are h.message_room) in
@@ -165,9 +165,9 @@ module _ {D : Type 0} (state : D → DiskState) (images : D → ℕ → List ℕ
   pub work_done : (old : TableNode D) (l : List Write) → writes_of old.devs ≡ l → (writes_of old.devs ≡ [] → ⊥) → (disk : StoreDisk) (agenda : Option (List StoreTask)) → IsTable state old (at disk agenda) → old.is_up ≡ true
       → (table : TableDevs (FuseDisk D)) (facts : Gathered StoreFact) (messages : Gathered (Option Node × Message)) (step : Step) (is_last : Bool)
       → WorksOn st im old.devs table (Ok step) l → KeepsUnset st old.devs table → NothingHidden table → is_last ≡ is_last_of (writes_of table)
-      → map fact_of facts.items.items ≡ told_by old ++ told_at old.store old.table old.owed step is_last
+      → map fact_of facts.items.items ≡ told_by old ++ told_at old.table old.owed step is_last
       → map send_of messages.items.items ≡ sent_by old ++ sent_at old.table old.owed step
-      → ((n : ℕ) → HasRoom old.facts (length (told_at old.store old.table old.owed step is_last) + n) → HasRoom facts n)
+      → ((n : ℕ) → HasRoom old.facts (length (told_at old.table old.owed step is_last) + n) → HasRoom facts n)
       → ((n : ℕ) → HasRoom old.messages (length (sent_at old.table old.owed step) + n) → HasRoom messages n)
       → Works state images (at disk agenda) old (record old { devs = table; facts = facts; messages = messages }) (Ok step)
   work_done old l is some disk None t up table facts messages step is_last k keeps hidden last told sent fr mr = let no = t.at.0 in absurd cc

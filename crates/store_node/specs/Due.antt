@@ -36,12 +36,12 @@ accepted table to entry = record {
 
 -- What a write of this name tells, which may be the last: the put of a row that its entry was accepted, the last write
 -- of a start that the table has recovered.
-abbrev pub told_at : ℕ → ℕ → Owed → Step → Bool → List Fact
-told_at store table owed.Nothing step is_last = []
-told_at store table (owed.Update to entry) steps.RowPut is_last = facts.Accepted table entry ∷ []
-told_at store table (owed.Update to entry) step is_last = []
-told_at store table owed.Start step true = facts.StoreRecovered store table ∷ []
-told_at store table owed.Start step false = []
+abbrev pub told_at : ℕ → Owed → Step → Bool → List Fact
+told_at table owed.Nothing step is_last = []
+told_at table (owed.Update to entry) steps.RowPut is_last = facts.Accepted table entry ∷ []
+told_at table (owed.Update to entry) step is_last = []
+told_at table (owed.Start store) step true = facts.StoreRecovered store table ∷ []
+told_at table (owed.Start store) step false = []
 
 -- and what it sends: the close of an entry answers its request
 abbrev pub sent_at : ℕ → Owed → Step → List Send

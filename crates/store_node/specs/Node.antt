@@ -42,11 +42,11 @@ abbrev pub sent_by : {D : Type 0} → TableNode D → List Send
 sent_by node = map send_of node.messages.items.items
 
 -- These tasks tell and send what is owed behind their writes.
-abbrev pub AreOwed : ℕ → ℕ → Owed → List Write → List StoreTask → Type 0
-AreOwed store table o [] [] = Unit {0}
-AreOwed store table o (w ∷ ws) (task ∷ tasks) = (task.facts ≡ told_at store table o (step_of w) (is_last_of ws))
-    × (task.sends ≡ sent_at table o (step_of w)) × AreOwed store table o ws tasks
-AreOwed store table o ws tasks = ⊥
+abbrev pub AreOwed : ℕ → Owed → List Write → List StoreTask → Type 0
+AreOwed table o [] [] = Unit {0}
+AreOwed table o (w ∷ ws) (task ∷ tasks) = (task.facts ≡ told_at table o (step_of w) (is_last_of ws))
+    × (task.sends ≡ sent_at table o (step_of w)) × AreOwed table o ws tasks
+AreOwed table o ws tasks = ⊥
 
 -- how many facts these tasks tell, and how many messages they send
 abbrev pub facts_in : List StoreTask → ℕ
@@ -92,7 +92,7 @@ pub record IsWorking {D : Type 0} (state : D → DiskState) (node : TableNode D)
   pub ready : IsReady (behind state) node.devs (writes_of node.devs)
   pub follows : Follows node.schema (devs (behind state) node.devs) (writes_of node.devs) disk tasks
   pub well : GoesWell node.schema disk tasks
-  pub owed : AreOwed node.store node.table node.owed (writes_of node.devs) tasks
+  pub owed : AreOwed node.table node.owed (writes_of node.devs) tasks
   pub fact_room : HasRoom node.facts (facts_in tasks)
   pub message_room : HasRoom node.messages (sends_in tasks)
   pub few_facts : facts_in tasks ≤ 1

@@ -5,21 +5,15 @@ ghost use Rattle.store_node.specs.Due.{fact_of, told_at, sent_at, facts_found};
 
 use crate::owed::Owed;
 use crate::told::StoreFact;
-use stab_base::{Step, StoreNo, TableNo};
+use stab_base::{Step, TableNo};
 use step_tables::{Addressed, Message, Outcome, SyncResponse};
 use store_commit::Recovery;
 use table_model::Entry;
 
 /// What a write tells: the put of a row that its entry was accepted, the last write of a start that the table has
 /// recovered.
-pub(crate) fn fact_due(
-    store: StoreNo,
-    table: TableNo,
-    owed: &Owed,
-    step: Step,
-    is_last: bool,
-) -> Option<StoreFact>
-    ensures { map fact_of (option_to_list result) ≡ told_at store table owed.now step is_last }
+pub(crate) fn fact_due(table: TableNo, owed: &Owed, step: Step, is_last: bool) -> Option<StoreFact>
+    ensures { map fact_of (option_to_list result) ≡ told_at table owed.now step is_last }
 {
     match owed {
         Owed::Nothing => None,
@@ -30,9 +24,12 @@ pub(crate) fn fact_due(
             }),
             _ => None,
         },
-        Owed::Start => {
+        Owed::Start { store } => {
             if is_last {
-                Some(StoreFact::Recovered { store, table })
+                Some(StoreFact::Recovered {
+                    store: *store,
+                    table,
+                })
             } else {
                 None
             }

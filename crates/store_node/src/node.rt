@@ -131,6 +131,35 @@ impl<D: Disk + Drop> TableNode<D> {
         self.is_up
     }
 
+    /// Whether the table was declared.
+    pub fn is_declared(&self) -> bool
+        ensures { result ≡ self.now.is_declared }
+    {
+        self.is_declared
+    }
+
+    /// The Store that keeps the table.
+    pub fn store(&self) -> StoreNo
+        ensures { result ≡ self.now.store }
+    {
+        self.store
+    }
+
+    /// The table's name.
+    pub fn name(&self) -> &[u8]
+        ensures { result.now ≡ self.now.schema.name }
+    {
+        self.schema.name.as_slice()
+    }
+
+    /// The Store that keeps the table from now on; nothing else changes.
+    pub fn move_to(&mut self, store: StoreNo)
+        ensures moved { self.new ≡ record self.old { store = store } }
+        ensures kept { (s : TableStore) → IsTable D.state self.old s → IsTable D.state self.new s }
+    {
+        self.store = store;
+    }
+
     /// Whether writes are still to be done.
     pub fn is_busy(&self) -> bool
         ensures { (s : TableStore) → IsTable D.state self.now s → result ≡ has_task s.agenda }
@@ -275,7 +304,7 @@ impl<D: Disk + Drop> TableNode<D> {
                 let fact = found(self.table, &recovery);
                 self.facts.put_if(fact);
                 self.is_up = true;
-                self.owed = Owed::Start;
+                self.owed = Owed::Start { store: self.store };
                 Ok(())
             }
             Err(fault) => {
@@ -352,7 +381,7 @@ impl<D: Disk + Drop> TableNode<D> {
         match self.devs.work() {
             Ok(step) => {
                 let is_last = self.devs.idle();
-                let fact = fact_due(self.store, self.table, &self.owed, step, is_last);
+                let fact = fact_due(self.table, &self.owed, step, is_last);
                 self.facts.put_if(fact);
                 let answer = answer_due(self.table, &self.owed, step);
                 self.messages.put_if(answer);

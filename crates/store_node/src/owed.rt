@@ -1,4 +1,4 @@
-use stab_base::Node;
+use stab_base::{Node, StoreNo};
 use table_model::Entry;
 
 /// What the writes that are to be done tell and send.
@@ -7,6 +7,6 @@ pub(crate) enum Owed {
     Nothing,
     /// A client's write is accepted, and answered to the party that it came from.
     Update { to: Node, entry: Entry },
-    /// The table has recovered.
-    Start,
+    /// The table has recovered at this Store, which started it.
+    Start { store: StoreNo },
 }

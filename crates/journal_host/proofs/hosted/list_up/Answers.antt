@@ -17,7 +17,7 @@ use Rattle.journal_host.proofs.hosted.list_up.Goals as goal
 pub returns-in_err-reserve-clause-kept : goal.returns-in_err-reserve-clause-kept
 returns-in_err-reserve-clause-kept g c cut s h =
     let p = err_from_is_err_and c.from_residual.result c.from_residual.ensures.1 in
-    rw p.1 (h, ap outs_in c.reserve.ensures.items)
+    rw p.1 (h, λ owners. ap (outs_in owners) c.reserve.ensures.items)
 
 pub returns-in_err-reserve-clause-spent : goal.returns-in_err-reserve-clause-spent
 returns-in_err-reserve-clause-spent g c cut s n h below =

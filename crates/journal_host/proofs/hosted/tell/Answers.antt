@@ -11,9 +11,9 @@ returns-clause-told g c cut s t =
     let k = c.take_out-out.ensures in
     record {
       behind = record { client = k.kept s.client t.client; number = k.same.number ∙ t.number; linked = k.same.linked ∙ t.linked; told = k.told; sent = k.sent };
-      outs = c.put.ensures
-          ∙ (ap (λ (l : List Fact). outs_in c.args.outs.now.items ++ said (record (outbox_of (record { client = c.args.client; out = c.take_out-out.result })) { facts = l } ∷ [])) (k.facts ∙ t.told)
-          ∙ ap (λ (l : List Send). outs_in c.args.outs.now.items ++ said (record { facts = s.facts; packets = packets_from (nodes.Client c.args.client) l } ∷ [])) (k.messages ∙ t.sent));
+      outs = λ owners. c.put.ensures owners
+          ∙ (ap (λ (l : List Fact). outs_in owners c.args.outs.now.items ++ said (record (outbox_of owners (record { client = c.args.client; out = c.take_out-out.result })) { facts = l } ∷ [])) (k.facts ∙ t.told)
+          ∙ ap (λ (l : List Send). outs_in owners c.args.outs.now.items ++ said (record { facts = s.facts; packets = packets_from owners (nodes.Client c.args.client) l } ∷ [])) (k.messages ∙ t.sent));
     }
 
 pub returns-clause-plans : goal.returns-clause-plans

@@ -1,5 +1,6 @@
 use Rattle.std.proofs.Common.{ℕ, sym, subst}
-use Rattle.store_host.proofs.Moving.{some_there, tables_given, tables_cause, found_is, found_up}
+use Rattle.store_host.proofs.Moving.{some_there, tables_given, tables_cause, found_up}
+use Rattle.store_host.proofs.Maps.{found_node}
 use Rattle.disk_trait.specs.Fuse.{inner_of}
 use Rattle.std.specs.BTreeMap as tree
 use Rattle.store_host.specs.declared.hosted.Hosted.{Hosted}
@@ -8,15 +9,15 @@ use Rattle.store_host.proofs.Lefts.{still_at, none_still}
 use Rattle.store_host.proofs.tables.row_at.Goals as goal
 
 pub row-requires-clause-node : goal.row-requires-clause-node
-row-requires-clause-node g c = found_is g.D.Disk.state c.args.tables.now c.args.table c.in-Some.hosted.now c.requires.up c.in-Some.ensures.value
+row-requires-clause-node g c = found_node g.D.Disk.state c.args.tables.now c.args.table c.in-Some.hosted.now c.requires.held c.in-Some.ensures.value
 
 pub row-requires-clause-up : goal.row-requires-clause-up
-row-requires-clause-up g c = found_up g.D.Disk.state c.args.tables.now c.args.table c.in-Some.hosted.now c.requires.up c.in-Some.ensures.value
+row-requires-clause-up g c = found_up c.args.tables.now c.args.table c.in-Some.hosted.now c.requires.up c.in-Some.ensures.value
 
 pub returns-in-Some-clause-given : goal.returns-in-Some-clause-given
-returns-in-Some-clause-given g c w numbers h up =
-    tables_given g.D.Disk.state w numbers c.args.tables.now (c.get_mut.follows.lender c.row.new.self) c.row.new.self c.in-Some.hosted.now h c.args.table c.in-Some.ensures.value
-    (c.get_mut.follows.holds c.row.new.self) c.args.row.now c.row.result (λ hosted k. c.row.ensures.given _ _ hosted k)
+returns-in-Some-clause-given g c w h =
+    tables_given g.D.Disk.state w c.args.tables.now (c.get_mut.follows.lender c.row.new.self) c.row.new.self c.in-Some.hosted.now h c.args.table c.in-Some.ensures.value
+    (c.get_mut.follows.holds c.row.new.self) c.args.row.now c.row.result (λ hosted k. c.row.ensures.given _ _ _ hosted k)
 
 pub returns-in-Some-clause-cause : goal.returns-in-Some-clause-cause
 returns-in-Some-clause-cause g c =
@@ -24,12 +25,12 @@ returns-in-Some-clause-cause g c =
     ((c.get_mut.follows.holds c.row.new.self).3 (some_there _ _ c.in-Some.ensures.value)).0 c.row.result c.row.ensures.cause
 
 pub returns-in-Some-clause-left : goal.returns-in-Some-clause-left
-returns-in-Some-clause-left g c w numbers h =
-    still_at g.D.Disk.state g.D.Disk.images (λ d image left. g.met.D.Disk.only_now (inner_of d) image left) w numbers c.args.tables.now h (c.get_mut.follows.lender c.row.new.self) c.args.table
+returns-in-Some-clause-left g c w h =
+    still_at g.D.Disk.state g.D.Disk.images (λ d image left. g.met.D.Disk.only_now (inner_of d) image left) w c.args.tables.now h (c.get_mut.follows.lender c.row.new.self) c.args.table
     c.row.new.self c.in-Some.hosted.now c.in-Some.ensures.value
-    (c.get_mut.follows.holds c.row.new.self) (λ hosted k made. c.row.ensures.left _ _ hosted k made)
+    (c.get_mut.follows.holds c.row.new.self) (λ hosted k made. c.row.ensures.left _ _ _ hosted k made)
 
 pub returns-in-None-clause-left : goal.returns-in-None-clause-left
-returns-in-None-clause-left g c w numbers h =
+returns-in-None-clause-left g c w h =
     subst (λ (t : tree.BTreeMap ℕ (Hosted g.row.D.Denot)). AreStill g.D.Disk.state g.D.Disk.images w c.args.tables.now t) (sym c.get_mut.follows.holds-at-none)
-    (none_still g.D.Disk.state g.D.Disk.images (λ d image left. g.met.D.Disk.only_now (inner_of d) image left) w numbers c.args.tables.now h)
+    (none_still g.D.Disk.state g.D.Disk.images (λ d image left. g.met.D.Disk.only_now (inner_of d) image left) w c.args.tables.now h)

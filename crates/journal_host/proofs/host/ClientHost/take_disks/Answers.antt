@@ -1,9 +1,8 @@
-use Rattle.std.proofs.Common.{◌≡◌, ℕ, Bool, true, cond, Option, None, ap, ◌∙◌, arith}
+use Rattle.std.proofs.Common.{◌≡◌, ℕ, Bool, true, cond, None, ap, ◌∙◌, arith}
 use Rattle.std.specs.Ordering.{nat_cmp}
 use Rattle.std.specs.BTreeMap as tree
 use Rattle.std.specs.BTreeMap.{is_at}
 use Rattle.std.proofs.lemmas.Bool.Decides.{nat_tests}
-use Rattle.client_node.specs.declared.node.ClientNode.{ClientNode}
 use Rattle.journal_host.proofs.host.ClientHost.take_disks.Goals as goal
 
 at_itself : (k : ℕ) → is_at (nat_cmp k) k ≡ true

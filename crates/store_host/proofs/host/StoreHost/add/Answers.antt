@@ -1,27 +1,41 @@
-use Rattle.std.proofs.Common.{◌≡◌, ⊎_elim, Bool, Some, true, false, ap, ◌∙◌, subst, arith}
-use Rattle.std.specs.Prelude.{OnOk, not}
+use Rattle.std.proofs.Common.{ℕ, List, Some, true, false, ap, ◌∙◌, subst, arith}
 use Rattle.std.proofs.lemmas.Result.{on_ok_weaker}
-use Rattle.world_tables.specs.World.{with_table, is_down, the_store}
-use Rattle.store_host.specs.Holds.{HoldsParts}
+use Rattle.ring_map.specs.Owners.{owner_on}
 use Rattle.disk_trait.specs.Fuse.{inner_of}
+use Rattle.store_host.specs.Holds.{IsHosted}
 use Rattle.store_host.specs.Steps.{new_table}
-use Rattle.store_host.proofs.Lefts.{added_still, fallen_still}
+use Rattle.store_host.proofs.Lefts.{added_still}
 use Rattle.store_host.proofs.Blanks.{none_added, is_added}
-use Rattle.store_host.proofs.Ups.{added_up, look_cases}
 use Rattle.store_host.proofs.Moving.{added_faults, other_faults}
 use Rattle.store_host.proofs.host.StoreHost.add.Goals as goal
 
 pub returns-in-Ok-clause-added : goal.returns-in-Ok-clause-added
 returns-in-Ok-clause-added g c w h =
-    on_ok_weaker c.put.result
-    (λ (k : HoldsParts g.D.Disk.state (with_table w c.args.table c.args.schema true (not (is_down w the_store))) c.put.new.self). record {
-      number = k.number;
-      up = k.up;
-      tables = k.tables;
-      ups = λ (up : is_down w the_store ≡ false). added_up w c.args.table c.args.schema true (not (is_down w the_store)) (ap not up) (h.ups up);
-    })
-    (subst (λ (b : Bool). OnOk c.put.result (HoldsParts g.D.Disk.state (with_table w c.args.table c.args.schema true b) c.put.new.self)) h.up
-    (c.put.ensures.put w c.args.schema true c.args.self.now.is_up h (c.in-Ok.ensures.declared (Some c.args.schema) c.args.table c.new-hosted.ensures.hosted)))
+    let own = c.owner_in-store.ensures w.stores h.ring ∙ ap (λ (name : List ℕ). owner_on name w.stores) c.as_slice.ensures in
+    c.put.ensures.put w c.args.schema true h (subst (λ (n : ℕ). IsHosted g.D.Disk.state n (Some c.args.schema) c.args.table (new_table true) c.declare.new.self) own
+    (c.in-Ok.ensures.declared c.owner_in-store.result (Some c.args.schema) c.args.table c.new-hosted.ensures.hosted))
+
+pub returns-in_ok-put-in-Err-Disk-clause-failed : goal.returns-in_ok-put-in-Err-Disk-clause-failed
+returns-in_ok-put-in-Err-Disk-clause-failed g c w h failed =
+    let own = c.owner_in-store.ensures w.stores h.ring ∙ ap (λ (name : List ℕ). owner_on name w.stores) c.as_slice.ensures in
+    c.in_ok-put-in-Err-Disk.ensures.put w c.args.schema false h (subst (λ (n : ℕ). IsHosted g.D.Disk.state n (Some c.args.schema) c.args.table (new_table false) c.declare.new.self) own
+    (c.in-Err-Disk.ensures.refused c.owner_in-store.result (Some c.args.schema) c.args.table c.new-hosted.ensures.hosted))
+
+pub returns-in_ok-put-in-Err-Disk-clause-cause : goal.returns-in_ok-put-in-Err-Disk-clause-cause
+returns-in_ok-put-in-Err-Disk-clause-cause g c failed =
+    let there = added_faults g.D.Disk.state c.args.self.now.tables c.put-in-Err-Disk.new.self.tables c.args.table c.declare.new.self c.in_ok-put-in-Err-Disk.ensures.tables in
+    let given = c.new-hosted.ensures.faults in
+    let rose = c.in-Err-Disk.ensures.cause.cause (let is = c.in-Err-Disk.field-0-is in cc) in
+    omega (arith, there, given, rose)
+
+pub returns-in_ok-put-in-Err-Disk-clause-others_failed : goal.returns-in_ok-put-in-Err-Disk-clause-others_failed
+returns-in_ok-put-in-Err-Disk-clause-others_failed g c q apart failed =
+    other_faults g.D.Disk.state c.args.self.now.tables c.put-in-Err-Disk.new.self.tables c.args.table c.declare.new.self c.in_ok-put-in-Err-Disk.ensures.tables q apart
+
+pub returns-in_ok-put-in-Err-Disk-clause-left_failed : goal.returns-in_ok-put-in-Err-Disk-clause-left_failed
+returns-in_ok-put-in-Err-Disk-clause-left_failed g c w h failed =
+    added_still g.D.Disk.state g.D.Disk.images (λ f image left. g.met.D.Disk.only_now (inner_of f) image left) w c.args.self.now.tables h.tables c.put-in-Err-Disk.new.self.tables c.args.table
+    c.declare.new.self c.requires.absent c.in_ok-put-in-Err-Disk.ensures.tables
 
 pub returns-in-Ok-clause-counted : goal.returns-in-Ok-clause-counted
 returns-in-Ok-clause-counted g c =
@@ -30,49 +44,16 @@ returns-in-Ok-clause-counted g c =
     ∙ (c.in-Ok.ensures.cause.counted (λ e. absurd cc) ∙ c.new-hosted.ensures.faults))
     c.put.ensures.tables
 
-pub fall-requires : goal.fall-requires
-fall-requires g c =
-    let n = c.requires.held in (
-      with_table n.0 c.args.table c.args.schema false false,
-      c.in_ok-put-in-Err-Disk.ensures.put n.0 c.args.schema false false n.1 (c.in-Err-Disk.ensures.refused (Some c.args.schema) c.args.table c.new-hosted.ensures.hosted),
-    )
-
-pub returns-in_ok-put-in-Err-Disk-clause-failed : goal.returns-in_ok-put-in-Err-Disk-clause-failed
-returns-in_ok-put-in-Err-Disk-clause-failed g c w h failed =
-    (c.fall.ensures.fallen (with_table w c.args.table c.args.schema false false)
-    (c.in_ok-put-in-Err-Disk.ensures.put w c.args.schema false false h (c.in-Err-Disk.ensures.refused (Some c.args.schema) c.args.table c.new-hosted.ensures.hosted))).held
-
-pub returns-in_ok-put-in-Err-Disk-clause-cause : goal.returns-in_ok-put-in-Err-Disk-clause-cause
-returns-in_ok-put-in-Err-Disk-clause-cause g c failed =
-    let there = added_faults g.D.Disk.state c.args.self.now.tables c.put-in-Err-Disk.new.self.tables c.args.table c.declare.new.self c.in_ok-put-in-Err-Disk.ensures.tables in
-    let same = c.fall.ensures.counted c.args.table in
-    let given = c.new-hosted.ensures.faults in
-    let rose = c.in-Err-Disk.ensures.cause.cause (let is = c.in-Err-Disk.field-0-is in cc) in
-    omega (arith, there, same, given, rose)
-
 pub returns-in-Ok-clause-others : goal.returns-in-Ok-clause-others
 returns-in-Ok-clause-others g c q apart =
     on_ok_weaker c.put.result (λ u. other_faults g.D.Disk.state c.args.self.now.tables c.put.new.self.tables c.args.table c.declare.new.self u q apart) c.put.ensures.tables
 
-pub returns-in_ok-put-in-Err-Disk-clause-others_failed : goal.returns-in_ok-put-in-Err-Disk-clause-others_failed
-returns-in_ok-put-in-Err-Disk-clause-others_failed g c q apart failed =
-    c.fall.ensures.counted q
-    ∙ other_faults g.D.Disk.state c.args.self.now.tables c.put-in-Err-Disk.new.self.tables c.args.table c.declare.new.self c.in_ok-put-in-Err-Disk.ensures.tables q apart
-
 pub returns-in-Ok-clause-left : goal.returns-in-Ok-clause-left
 returns-in-Ok-clause-left g c w h =
     on_ok_weaker c.put.result
-    (λ added. added_still g.D.Disk.state g.D.Disk.images (λ f image left. g.met.D.Disk.only_now (inner_of f) image left) w c.args.self.now.numbers c.args.self.now.tables h.tables c.put.new.self.tables c.args.table
+    (λ added. added_still g.D.Disk.state g.D.Disk.images (λ f image left. g.met.D.Disk.only_now (inner_of f) image left) w c.args.self.now.tables h.tables c.put.new.self.tables c.args.table
     c.declare.new.self c.requires.absent added)
     c.put.ensures.tables
-
-pub returns-in_ok-put-in-Err-Disk-clause-left_failed : goal.returns-in_ok-put-in-Err-Disk-clause-left_failed
-returns-in_ok-put-in-Err-Disk-clause-left_failed g c w h failed =
-    fallen_still g.D.Disk.state g.D.Disk.images (λ f image left. g.met.D.Disk.only_now (inner_of f) image left) w c.args.self.now.numbers c.args.self.now.tables h.tables c.put-in-Err-Disk.new.self.tables c.args.table
-    c.declare.new.self c.requires.absent c.in_ok-put-in-Err-Disk.ensures.tables c.fall.new.self.tables (with_table w c.args.table c.args.schema false false)
-    (λ q apart. ⊎_elim (λ e. absurd (apart e.0)) (λ e. e.1) (look_cases w.tables c.args.table (new_table false false) q))
-    (c.fall.ensures.left (with_table w c.args.table c.args.schema false false)
-    (c.in_ok-put-in-Err-Disk.ensures.put w c.args.schema false false h (c.in-Err-Disk.ensures.refused (Some c.args.schema) c.args.table c.new-hosted.ensures.hosted)))
 
 pub returns-in-Ok-clause-blank : goal.returns-in-Ok-clause-blank
 returns-in-Ok-clause-blank g c blank =

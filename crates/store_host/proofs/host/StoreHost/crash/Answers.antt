@@ -1,8 +1,7 @@
-use Rattle.std.proofs.Common.{ℕ, List, false, subst}
-use Rattle.world_tables.specs.World.{table_crashes, crash_luck, first_luck, other_lucks, busy_table, owner}
-use Rattle.store_host.specs.Holds.{HoldsTables, AreLeft}
-use Rattle.store_host.specs.Calls.{AreCrashed}
-use Rattle.store_host.proofs.Stores.{any_outs, moved_store, crash_falls}
+use Rattle.std.proofs.Common.{ℕ, Option, subst}
+use Rattle.store_host.specs.Calls.{HasLuck}
+use Rattle.world_tables.specs.World.{table_crashes, crash_luck, first_luck, other_lucks, busy_table}
+use Rattle.store_host.proofs.Stores.{crash_parts, crash_falls, up_declared}
 use Rattle.store_host.proofs.Froms.{crash_from}
 use Rattle.store_host.proofs.Lefts.{work_falls}
 use Rattle.store_host.proofs.Crashed.{luck_then, luck_later}
@@ -12,35 +11,31 @@ pub fall-requires : goal.fall-requires
 fall-requires g c =
     let old = c.args.self.now in
     let n = c.requires.held in
-    let a = subst (λ (ns : List ℕ). HoldsTables g.D.Disk.state n.0 ns old.tables → AreCrashed g.D.Disk.state n.0 ns c.args.calls old.tables c.crash_busy.new.tables) c.as_slice.ensures
-    (c.crash_busy.ensures.crashed n.0) n.1.tables in
-    let m = table_crashes (crash_luck c.args.calls (other_lucks a.0) (first_luck a.0)) (busy_table n.0 owner) n.0 in
-    (_, moved_store g.D.Disk.state n.0 old n.1 c.crash_busy.new.tables old.outs false m (any_outs g.D.Disk.state n.0 old n.1 c.crash_busy.new.tables m a.1))
+    (_, crash_parts g.D.Disk.state n.0 old n.1 c.args.store c.busy-busy.result (c.busy-busy.ensures n.0 n.1) c.crash_busy.new.tables c.args.calls (c.crash_busy.ensures.crashed n.0 n.1.tables))
 
 pub returns-clause-crashed : goal.returns-clause-crashed
 returns-clause-crashed g c w h =
     let old = c.args.self.now in
-    let a = subst (λ (ns : List ℕ). HoldsTables g.D.Disk.state w ns old.tables → AreCrashed g.D.Disk.state w ns c.args.calls old.tables c.crash_busy.new.tables) c.as_slice.ensures
-    (c.crash_busy.ensures.crashed w) h.tables in
-    let luck = crash_luck c.args.calls (other_lucks a.0) (first_luck a.0) in (
+    let a = c.crash_busy.ensures.crashed w h.tables in (
       a.0,
-      crash_falls g.D.Disk.state w old h c.crash_busy.new.tables c.fall.new.self luck a.1 c.fall.ensures.fallen,
-      luck_then g.D.Disk.state w old.tables c.crash_busy.new.tables c.fall.new.self.tables a.0 a.2 c.fall.ensures.counted,
+      crash_falls g.D.Disk.state w old h c.args.store c.busy-busy.result (c.busy-busy.ensures w h) c.fall.new.self (up_declared g.D.Disk.state w old h c.args.store c.requires.up) c.crash_busy.new.tables c.args.calls a
+          c.fall.ensures.fallen,
+      subst (λ (o : Option ℕ). HasLuck g.D.Disk.state o old.tables c.fall.new.self.tables a.0) (c.busy-busy.ensures w h)
+          (luck_then g.D.Disk.state c.busy-busy.result old.tables c.crash_busy.new.tables c.fall.new.self.tables a.0 a.2 c.fall.ensures.counted),
     )
 
 pub returns-clause-later : goal.returns-clause-later
 returns-clause-later g c =
     let n = c.requires.held in
     let a = returns-clause-crashed g c n.0 n.1 in
-    luck_later g.D.Disk.state n.0 c.args.self.now.tables c.fall.new.self.tables a.0 a.2
+    luck_later g.D.Disk.state (busy_table n.0 c.args.store) c.args.self.now.tables c.fall.new.self.tables a.0 a.2
 
 pub returns-clause-left : goal.returns-clause-left
 returns-clause-left g c w h =
     let old = c.args.self.now in
-    let a = subst (λ (ns : List ℕ). HoldsTables g.D.Disk.state w ns old.tables → AreCrashed g.D.Disk.state w ns c.args.calls old.tables c.crash_busy.new.tables) c.as_slice.ensures
-    (c.crash_busy.ensures.crashed w) h.tables in
-    let left = subst (λ (ns : List ℕ). HoldsTables g.D.Disk.state w ns old.tables → AreLeft g.D.Disk.state g.D.Disk.images w old.tables c.crash_busy.new.tables) c.as_slice.ensures
-    (c.crash_busy.ensures.left w) h.tables in
+    let a = c.crash_busy.ensures.crashed w h.tables in
     let luck = crash_luck c.args.calls (other_lucks a.0) (first_luck a.0) in
-    work_falls g.D.Disk.state g.D.Disk.images w (table_crashes luck (busy_table w owner) w).world old h c.crash_busy.new.tables old.outs c.fall.new.self a.1.held a.1.downs c.fall.ensures.left
-    (crash_from luck (busy_table w owner) w) left
+    let v = (table_crashes luck c.busy-busy.result w).world in
+    work_falls g.D.Disk.state g.D.Disk.images w v old.tables c.crash_busy.new.tables c.fall.new.self.tables h.tables a.1.held
+    (c.fall.ensures.left v (crash_parts g.D.Disk.state w old h c.args.store c.busy-busy.result (c.busy-busy.ensures w h) c.crash_busy.new.tables c.args.calls a))
+    (crash_from luck c.busy-busy.result w) (c.crash_busy.ensures.left w h.tables)

@@ -1,32 +1,35 @@
 use Rattle.std.proofs.Common.{Err, rules, refl, ap}
 use Rattle.store_host.proofs.Moving.{then_show_cause}
-use Rattle.store_host.proofs.Stores.{held_up, all_up}
-use Rattle.store_host.proofs.Serving.{showed, showed_falling, showed_parts}
+use Rattle.store_host.proofs.Serving.{up_table, owned, showed, showed_falling, showed_parts}
 use Rattle.world_tables.specs.World.{table_falls}
 use Rattle.store_host.proofs.Froms.{fall_from}
 use Rattle.store_host.proofs.Lefts.{still_left, read_falls}
 use Rattle.store_host.proofs.host.StoreHost.show.Goals as goal
 
+pub show_at-requires-clause-held : goal.show_at-requires-clause-held
+show_at-requires-clause-held g c = let n = c.requires.held in (n.0, n.1.tables)
+
 pub show_at-requires-clause-up : goal.show_at-requires-clause-up
-show_at-requires-clause-up g c = let n = c.requires.held in held_up g.D.Disk.state n.0 c.args.self.now n.1 c.requires.up
+show_at-requires-clause-up g c = let n = c.requires.held in up_table g.D.Disk.state n.0 c.args.self.now n.1 c.args.table c.requires.up
 
 pub returns-in-Ok-clause-shows : goal.returns-in-Ok-clause-shows
 returns-in-Ok-clause-shows g c w h =
-    showed g.D.Disk.state w c.args.self.now h c.args.table c.args.row.now c.show_at.new.tables _ (λ is. cc)
-    (c.in-Ok.ensures.shown w c.args.self.now.numbers h.tables (all_up g.D.Disk.state w c.args.self.now h c.requires.up))
+    showed g.D.Disk.state w c.args.self.now h c.args.table c.args.row.now c.show_at.new.tables _ (λ is. cc) (c.in-Ok.ensures.shown w h.tables)
 
 pub fall-requires : goal.fall-requires
 fall-requires g c =
-    let n = c.requires.held in (
+    let n = c.requires.held in
+    let o = owned g.D.Disk.state n.0 c.args.self.now n.1 c.args.table c.requires.up c.owner-store.result c.args.table c.owner-store.ensures.there refl c.requires.there in (
       _,
-      showed_parts g.D.Disk.state n.0 c.args.self.now n.1 c.args.table c.args.row.now c.show_at.new.tables c.in-Err-Disk.field-0 c.in-Err-Disk.field-0-is
-          (c.in-Err-Disk.ensures.shown n.0 c.args.self.now.numbers n.1.tables (all_up g.D.Disk.state n.0 c.args.self.now n.1 c.requires.up)),
+      showed_parts g.D.Disk.state n.0 c.args.self.now n.1 c.args.table c.args.row.now c.show_at.new.tables c.owner-store.result o.0 c.in-Err-Disk.field-0 c.in-Err-Disk.field-0-is
+          (c.in-Err-Disk.ensures.shown n.0 n.1.tables),
     )
 
 pub returns-in-Err-Disk-clause-shows : goal.returns-in-Err-Disk-clause-shows
 returns-in-Err-Disk-clause-shows g c w h =
-    showed_falling g.D.Disk.state w c.args.self.now h c.args.table c.args.row.now c.show_at.new.tables c.fall.new.self c.in-Err-Disk.field-0 c.in-Err-Disk.field-0-is
-    (c.in-Err-Disk.ensures.shown w c.args.self.now.numbers h.tables (all_up g.D.Disk.state w c.args.self.now h c.requires.up)) c.fall.ensures.fallen
+    let o = owned g.D.Disk.state w c.args.self.now h c.args.table c.requires.up c.owner-store.result c.args.table c.owner-store.ensures.there refl c.requires.there in
+    showed_falling g.D.Disk.state w c.args.self.now h c.args.table c.args.row.now c.show_at.new.tables c.owner-store.result o.0 o.1 c.fall.new.self c.in-Err-Disk.field-0 c.in-Err-Disk.field-0-is
+    (c.in-Err-Disk.ensures.shown w h.tables) c.fall.ensures.fallen
 
 pub returns-in-Err-Disk-clause-up : goal.returns-in-Err-Disk-clause-up
 returns-in-Err-Disk-clause-up g c = λ other. absurd (other refl)
@@ -37,19 +40,21 @@ returns-in-Err-Disk-clause-cause g c =
 
 pub returns-in-Err-clause-shows : goal.returns-in-Err-clause-shows
 returns-in-Err-clause-shows g c w h =
-    showed g.D.Disk.state w c.args.self.now h c.args.table c.args.row.now c.show_at.new.tables _ (search rules)
-    (c.in-Err.ensures.shown w c.args.self.now.numbers h.tables (all_up g.D.Disk.state w c.args.self.now h c.requires.up))
+    showed g.D.Disk.state w c.args.self.now h c.args.table c.args.row.now c.show_at.new.tables _ (search rules) (c.in-Err.ensures.shown w h.tables)
 
 pub returns-in-Ok-clause-left : goal.returns-in-Ok-clause-left
-returns-in-Ok-clause-left g c w h = still_left g.D.Disk.state g.D.Disk.images w c.args.self.now.tables c.show_at.new.tables (c.in-Ok.ensures.left w c.args.self.now.numbers h.tables)
+returns-in-Ok-clause-left g c w h = still_left g.D.Disk.state g.D.Disk.images w c.args.self.now.tables c.show_at.new.tables (c.in-Ok.ensures.left w h.tables)
 
 pub returns-in-Err-clause-left : goal.returns-in-Err-clause-left
-returns-in-Err-clause-left g c w h = still_left g.D.Disk.state g.D.Disk.images w c.args.self.now.tables c.show_at.new.tables (c.in-Err.ensures.left w c.args.self.now.numbers h.tables)
+returns-in-Err-clause-left g c w h = still_left g.D.Disk.state g.D.Disk.images w c.args.self.now.tables c.show_at.new.tables (c.in-Err.ensures.left w h.tables)
 
 pub returns-in-Err-Disk-clause-left : goal.returns-in-Err-Disk-clause-left
 returns-in-Err-Disk-clause-left g c w h =
     let old = c.args.self.now in
     let table = c.args.table in
-    let f = (c.in-Err-Disk.ensures.shown w old.numbers h.tables (all_up g.D.Disk.state w old h c.requires.up)).fallen (ap Err c.in-Err-Disk.field-0-is) in
-    read_falls g.D.Disk.state g.D.Disk.images w (table_falls table w).world old h c.show_at.new.tables old.outs c.fall.new.self f.held f.downs c.fall.ensures.left (fall_from w table)
-    (c.in-Err-Disk.ensures.left w old.numbers h.tables)
+    let o = owned g.D.Disk.state w old h table c.requires.up c.owner-store.result table c.owner-store.ensures.there refl c.requires.there in
+    let k = c.in-Err-Disk.ensures.shown w h.tables in
+    let f = k.fallen (ap Err c.in-Err-Disk.field-0-is) in
+    read_falls g.D.Disk.state g.D.Disk.images w (table_falls table w).world old.tables c.show_at.new.tables c.fall.new.self.tables h.tables f.held
+    (c.fall.ensures.left (table_falls table w).world (showed_parts g.D.Disk.state w old h table c.args.row.now c.show_at.new.tables c.owner-store.result o.0 c.in-Err-Disk.field-0 c.in-Err-Disk.field-0-is k))
+    (fall_from w table) (c.in-Err-Disk.ensures.left w h.tables)

@@ -17,12 +17,12 @@ returns-in_err-tell-in-Ok-clause-cause g c =
     (Err c.in_err-tell-in-Ok.field-0.0) c.in_err-tell-in-Ok.ensures.memory)
 
 pub returns-in_ok-tell-in-Ok-clause-done : goal.returns-in_ok-tell-in-Ok-clause-done
-returns-in_ok-tell-in-Ok-clause-done g c schema table hosted h =
+returns-in_ok-tell-in-Ok-clause-done g c store schema table hosted h =
     let k = c.in-Ok.ensures.works hosted.store h.node in
     let mid = record c.args.self.now { node = c.work.new.self } in (
-      c.in_ok-tell-in-Ok.ensures.told schema table hosted (done hosted.store.disk hosted.store.agenda)
-          (telling g.D.Disk.state schema table hosted (done hosted.store.disk hosted.store.agenda) c.args.self.now mid h k.done.0 hosted.made (c.work.ensures.declared ∙ h.made) refl),
-      k.done.1 ∙ next_is g.D.Disk.state schema table hosted.store.agenda,
+      c.in_ok-tell-in-Ok.ensures.told store schema table hosted (done hosted.store.disk hosted.store.agenda)
+          (telling g.D.Disk.state store schema table hosted (done hosted.store.disk hosted.store.agenda) c.args.self.now mid h k.done.0 hosted.made (c.work.ensures.declared ∙ h.made) refl),
+      k.done.1 ∙ next_is g.D.Disk.state store schema table hosted.store.agenda,
     )
 
 pub returns-in_ok-tell-in-Ok-clause-cause : goal.returns-in_ok-tell-in-Ok-clause-cause
@@ -38,20 +38,20 @@ returns-in-Err-clause-cause g c =
     done_cause g.D.Disk.state c.args.self.now.node c.work.new.self c.in-Err.fault k.cause k.only
 
 pub returns-then-not-is_up-clause-left : goal.returns-then-not-is_up-clause-left
-returns-then-not-is_up-clause-left g c schema table hosted h made =
+returns-then-not-is_up-clause-left g c store schema table hosted h made =
     let node = c.args.self.now.node in
     or_next g.D.Disk.state g.D.Disk.images node node hosted.store.disk (behind_next hosted.store.disk hosted.store.agenda)
     (node_rows g.D.Disk.state g.D.Disk.images (λ d image left. g.met.D.Disk.only_now (inner_of d) image left) node hosted.store.disk hosted.store.agenda h.node (h.made ∙ made))
 
 pub returns-in_err-tell-in-Ok-clause-left : goal.returns-in_err-tell-in-Ok-clause-left
-returns-in_err-tell-in-Ok-clause-left g c schema table hosted h made =
+returns-in_err-tell-in-Ok-clause-left g c store schema table hosted h made =
     rows_told g.D.Disk.state g.D.Disk.images c.args.self.now.node c.work.new.self c.tell.new.self.node hosted.store.disk (behind_next hosted.store.disk hosted.store.agenda) c.tell.ensures.devs
     (c.in-Ok.ensures.works hosted.store h.node).rows_left
 
 pub returns-in_ok-tell-in-Ok-clause-left : goal.returns-in_ok-tell-in-Ok-clause-left
-returns-in_ok-tell-in-Ok-clause-left g c schema table hosted h made =
+returns-in_ok-tell-in-Ok-clause-left g c store schema table hosted h made =
     rows_told g.D.Disk.state g.D.Disk.images c.args.self.now.node c.work.new.self c.tell.new.self.node hosted.store.disk (behind_next hosted.store.disk hosted.store.agenda) c.tell.ensures.devs
     (c.in-Ok.ensures.works hosted.store h.node).rows_left
 
 pub returns-in-Err-clause-left : goal.returns-in-Err-clause-left
-returns-in-Err-clause-left g c schema table hosted h made = (c.in-Err.ensures.works hosted.store h.node).rows_left
+returns-in-Err-clause-left g c store schema table hosted h made = (c.in-Err.ensures.works hosted.store h.node).rows_left

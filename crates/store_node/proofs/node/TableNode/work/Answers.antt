@@ -24,7 +24,7 @@ put_if-requires g c =
     let n = c.requires.node in
     let up = devices_up g.D.Disk.state g.D.Disk.images old n.0.disk n.0.agenda n.1 in
     let last : c.idle-is_last.result ≡ is_last_of (writes_of c.work.new.self) = last_is c.idle-is_last.result (writes_of c.work.new.self) c.idle-is_last.ensures in
-    due_room fact_of old.facts c.fact_due-fact.result (told_at old.store old.table old.owed c.in-Ok.step c.idle-is_last.result) c.fact_due-fact.ensures
+    due_room fact_of old.facts c.fact_due-fact.result (told_at old.table old.owed c.in-Ok.step c.idle-is_last.result) c.fact_due-fact.ensures
     (fact_due_room g.D.Disk.state g.D.Disk.images old (writes_of old.devs) refl c.if-idle.ensures n.0.disk n.0.agenda n.1 c.requires.up c.work.new.self c.in-Ok.step c.idle-is_last.result (c.in-Ok.ensures.works up) last)
 
 pub put_if-requires-in-Ok : goal.put_if-requires-in-Ok
@@ -40,7 +40,7 @@ returns-in-Ok-clause-works g c s t =
     let old = c.args.self.now in
     let up = devices_up g.D.Disk.state g.D.Disk.images old s.disk s.agenda t in
     let last : c.idle-is_last.result ≡ is_last_of (writes_of c.work.new.self) = last_is c.idle-is_last.result (writes_of c.work.new.self) c.idle-is_last.ensures in
-    let fact_due = told_at old.store old.table old.owed c.in-Ok.step c.idle-is_last.result in
+    let fact_due = told_at old.table old.owed c.in-Ok.step c.idle-is_last.result in
     let answer_due = sent_at old.table old.owed c.in-Ok.step in
     work_done g.D.Disk.state g.D.Disk.images (λ f image left. g.met.D.Disk.only_now (inner_of f) image left) old (writes_of old.devs) refl c.if-idle.ensures s.disk s.agenda t c.requires.up
     c.work.new.self c.put_if.new.self c.put_if-in-Ok.new.self c.in-Ok.step c.idle-is_last.result (c.in-Ok.ensures.works up) c.in-Ok.ensures.fuse (c.work.ensures.hidden (node_hidden g.D.Disk.state g.D.Disk.images old s.disk s.agenda t c.requires.up)) last

@@ -13,7 +13,7 @@ use Rattle.step_tables.specs.Facts.{Line, AnswerLine, PairLine}
 use Rattle.step_tables.specs.Facts as facts
 use Rattle.step_tables.specs.Lines.{answer_of}
 use Rattle.step_tables.specs.Messages.{Luck}
-use Rattle.world_tables.specs.World.{Lucks, listed, Outbox, WorldStep, answering, answered, refused, is_down, linked, with_link, client_at, client_tasks, client_crashes, hosted_at, is_fault, first_luck}
+use Rattle.world_tables.specs.World.{Lucks, listed, WorldStep, owner_of, answering, answered, refused, is_down, linked, with_link, client_at, client_tasks, client_crashes, hosted_at, is_fault, first_luck}
 use Rattle.world_tables.specs.World as moves
 use Rattle.world_tables.specs.Faults.{is_failure, is_fault_answer, fails_write}
 use Rattle.fault_laws.proofs.Same.{done_alone}
@@ -24,6 +24,7 @@ use Rattle.client_node.specs.declared.node.ClientNode.{ClientNode}
 use Rattle.journal_host.specs.declared.fault.ClientFault.{ClientFault}
 use Rattle.journal_host.specs.declared.fault.ClientFault.TheVariants as client
 use Rattle.journal_host.specs.declared.host.ClientHost.{ClientHost}
+use Rattle.journal_host.specs.declared.out.ClientOut.{ClientOut}
 use Rattle.journal_host.specs.Holds.{HoldsClients, SameFaults, RisenFaults, said}
 use Rattle.journal_host.specs.Holds as host
 use Rattle.journal_host.specs.Calls.{IsMoved, IsCalled, HasCause, HasLuck, IsNumberCause}
@@ -41,7 +42,9 @@ use Rattle.node_steps.specs.Faults.{AreCounted}
 use Rattle.node_steps.specs.Told.{AreOuts}
 use Rattle.node_steps.specs.Steps.{HavePlansBelow, IsStill, SpendsNumber, SpendsWithin}
 use Rattle.node_steps.proofs.Counted.{sent_counted, clients_same, clients_still, tables_same, tables_still, all_same}
-use Rattle.node_steps.proofs.Keeping.{KeepsBeside, Keeps, changed, listed_keeps, crash_quiet}
+use Rattle.journal_host.proofs.Keeping.{changed}
+use Rattle.node_steps.proofs.Staying.{store_stays}
+use Rattle.node_steps.proofs.Keeping.{KeepsBeside, Keeps, listed_keeps, crash_quiet}
 
 -- ---- what is told
 
@@ -72,24 +75,18 @@ answer_told state old new answer found result is k = pairs_told state old new []
 
 module _ {D : Type 0} (state : D → DiskState) (w : moves.World) (old : World D) (h : Holds state w old) (s : WorldStep) (pairs : List RowPair) (keeps : KeepsBeside w s pairs) (mid : ClientHost D)
     (answer : Answer) (k : IsCalled state old.clients mid s answer) where
-  waiting : host.outs_of mid ≡ said s.outs
-  waiting = k.outs ∙ ap (λ (os : List Outbox). os ++ said s.outs) h.clients_told
+  waiting : host.outs_of (owner_of s.world) mid ≡ said s.outs
+  waiting = k.outs ∙ ap (λ (outs : List ClientOut). host.outs_in (owner_of s.world) outs ++ said s.outs) h.clients_told
 
   held_behind : (new : World D) (told : Told) → HasToldPairs state (record old { clients = mid }) new (answer_of answer) pairs told
       → Holds state (changed w s.world) (record old { clients = new.clients })
   held_behind new told t = record {
     schemas = h.schemas;
-    store = record {
-      number = h.store.number;
-      up = h.store.up;
-      tables = record { there = h.store.tables.there; all = h.store.tables.all; keys = h.store.tables.keys; rising = h.store.tables.rising };
-      ups = h.store.ups;
-    };
+    store = store_stays state w old.store s.world.clients s.world.packets w.holds s.world.cuts s.world.phases h.store;
     clients = subst (λ (x : moves.World). HoldsClients state x new.clients) keeps.same (t.held s.world k.held);
     store_told = h.store_told;
     clients_told = t.none_waits;
     held = h.held;
-    downs = h.downs;
     numbered = record { both = h.numbered.both; tables = h.numbered.tables; clients = λ q there. h.numbered.clients q (sym (keeps.clients q) ∙ there) };
   }
 
@@ -97,7 +94,7 @@ module _ {D : Type 0} (state : D → DiskState) (w : moves.World) (old : World D
   told_one new told t = record {
     lines_are = t.lines_are ∙ (ap (λ (o : Option facts.Answer). map AnswerLine (option_to_list o) ++ map PairLine pairs) (sym k.answer_is)
         ∙ ap (λ (ls : List Line). map AnswerLine (option_to_list s.answer) ++ ls) (sym keeps.counted));
-    outs_are = subst (λ (o : Outs). AreOuts o s.outs) (sym t.outs_are) (t.waited_are ∙ waiting);
+    outs_are = subst (λ (o : Outs). AreOuts (owner_of s.world) o s.outs) (sym t.outs_are) waiting;
     held = subst (λ (x : moves.World). Holds state x new) (sym keeps.same) (subst (λ (x : World D). Holds state (changed w s.world) x) (sym t.same) (held_behind new told t));
     tables = λ table. ap (λ (x : moves.World). is_some (hosted_at x table)) keeps.same;
     clients = keeps.clients;
@@ -250,6 +247,10 @@ module _ {D : Type 0} (state : D → DiskState) (w : moves.World) (c n : ℕ) (o
 
 -- ---- clients that have done nothing
 
+none_wait : (owners : ℕ → ℕ) (outs : List ClientOut) → host.outs_in owners outs ≡ [] → outs ≡ []
+none_wait owners [] e = refl
+none_wait owners (out ∷ outs) e = absurd cc
+
 pub still_clients : {D : Type 0} (state : D → DiskState) (w : moves.World) (old : World D) (mid : ClientHost D) → Holds state w old → events.Stays state w old.clients mid
     → SameFaults state old.clients.clients mid.clients → IsStill state w old (record old { clients = mid })
 still_clients state w old mid h k same = record {
@@ -258,9 +259,8 @@ still_clients state w old mid h k same = record {
     store = h.store;
     clients = k.held;
     store_told = h.store_told;
-    clients_told = k.outs ∙ h.clients_told;
+    clients_told = none_wait (owner_of w) mid.outs.items (k.outs (owner_of w) ∙ ap (host.outs_in (owner_of w)) h.clients_told);
     held = h.held;
-    downs = h.downs;
     numbered = h.numbered;
   };
   same = all_same state old (record old { clients = mid }) (tables_still state old (record old { clients = mid }) refl) (clients_same state old (record old { clients = mid }) same);
@@ -321,10 +321,9 @@ still_store {D} state w old s h held outs same = record {
     schemas = h.schemas;
     store = held;
     clients = h.clients;
-    store_told = ap stores.outs_in outs ∙ h.store_told;
+    store_told = outs ∙ h.store_told;
     clients_told = h.clients_told;
     held = h.held;
-    downs = h.downs;
     numbered = h.numbered;
   };
   same = all_same state old (record old { store = s }) (tables_same state old (record old { store = s }) same) (clients_still state old (record old { store = s }) refl);

@@ -13,7 +13,7 @@ use Rattle.step_tables.specs.ClientMoves.{Client}
 use Rattle.step_tables.specs.Facts as facts
 use Rattle.step_tables.specs.Lines.{line_of, answer_of}
 use Rattle.step_tables.specs.Messages.{Luck}
-use Rattle.world_tables.specs.World.{WorldStep, Lucks, Hosted, hosted_at, client_at, is_cut, is_fault, first_luck, busy_table, owner, step, start, schema_at}
+use Rattle.world_tables.specs.World.{WorldStep, Lucks, Hosted, hosted_at, client_at, is_cut, is_fault, first_luck, owner_of, step, start, schema_at}
 use Rattle.world_tables.specs.World as moves
 use Rattle.world_tables.specs.Faults.{is_failure, fails_cut, is_fault_answer, is_device_fault}
 use Rattle.world_tables.specs.Passed.{first_part}
@@ -64,10 +64,10 @@ module _ {D : Type 0} (state : D → DiskState) where
   follow_counted old mid new (Err e) same k = tt
   follow_counted old mid new (Ok answer) same k = then_counted old mid new (is_fault (answer_of answer)) same k
 
-  pub cut_counted : (w : moves.World) (old new : tree.BTreeMap ℕ (Kept D)) (lucks : List Luck) → HasLuck state w old new lucks → IsCounted state (fails_cut (busy_table w owner) lucks) old new
-  cut_counted w old new lucks k = go (busy_table w owner) refl
+  pub cut_counted : (busy : Option ℕ) (old new : tree.BTreeMap ℕ (Kept D)) (lucks : List Luck) → HasLuck state busy old new lucks → IsCounted state (fails_cut busy lucks) old new
+  cut_counted busy old new lucks k = go busy refl
     where
-      go : (o : Option ℕ) → busy_table w owner ≡ o → IsCounted state (fails_cut o lucks) old new
+      go : (o : Option ℕ) → busy ≡ o → IsCounted state (fails_cut o lucks) old new
       go None e = none_failed old new false refl (k.counted (k.idle e))
       go (Some table) e = record {
         rose = λ t. k.cause (λ done. let no : false ≡ true = ap is_failure (sym done) ∙ t in absurd cc);
@@ -90,7 +90,7 @@ module _ {D : Type 0} (state : D → DiskState) where
   pub ranged_at : (w : moves.World) (world : World D) → Holds state w world → (table : ℕ) → 0 < faults_at state world.store.tables table → (1 ≤ table) × (table ≤ 64)
   ranged_at w world h table up = go (tree.get nat_cmp world.store.tables table) up (hosted_at w table) refl (h.store.tables.there table)
     where
-      go : (it : Option (Kept D)) → 0 < faults_in state it → (o : Option Hosted) → hosted_at w table ≡ o → HostedThere state (schema_at w table) table o it → (1 ≤ table) × (table ≤ 64)
+      go : (it : Option (Kept D)) → 0 < faults_in state it → (o : Option Hosted) → hosted_at w table ≡ o → HostedThere state (owner_of w table) (schema_at w table) table o it → (1 ≤ table) × (table ≤ 64)
       go None up o e k = absurd (omega (arith, up))
       go (Some it) up None e k = absurd k
       go (Some it) up (Some hosted) e k = h.numbered.tables table (ap (λ (o : Option Hosted). is_some o) e)
@@ -185,7 +185,7 @@ module _ {D : Type 0} (state : D → DiskState) where
       (sum_same (faults_at state world.store.tables) (λ k. 0) 64 (λ table. no_table table (tree.get nat_cmp world.store.tables table) (h.store.tables.there table)) ∙ sum_none 64)
       (sum_same (clients.faults_at state world.clients.clients) (λ k. 0) 64 (λ c. no_client c (tree.get nat_cmp world.clients.clients c) (h.clients.there c)) ∙ sum_none 64)
     where
-      no_table : (table : ℕ) (it : Option (Kept D)) → HostedThere state (schema_at start table) table None it → faults_in state it ≡ 0
+      no_table : (table : ℕ) (it : Option (Kept D)) → HostedThere state (owner_of start table) (schema_at start table) table None it → faults_in state it ≡ 0
       no_table table None k = refl
       no_table table (Some it) k = absurd k
 
@@ -207,7 +207,7 @@ module _ {D : Type 0} (state : D → DiskState) where
   only_counted (Err e) a old new fine store nodes k = tt
   only_counted (Ok told) a old new fine store nodes k = none_totals old new (tell_fault (map line_of told.lines)) (tells (map line_of told.lines) a [] k.lines_are ∙ fine) store nodes
 
-  -- what the Store told and sent
+  -- what the Stores told and sent
   pub told_counted : (w : moves.World) (f : Lucks → WorldStep) (result : Result Told WorldFault) (a : facts.Answer) (old new : World D) (s : StoreHost D)
       → IsCounted state (is_fault a) old.store.tables s.tables → IfOk result (λ told. HasTold (record old { store = s }) new a told) → Comes state w f result new → AreCounted state result old new
   told_counted w f (Err e) a old new s c k d = tt
@@ -341,7 +341,7 @@ module _ {D : Type 0} (state : D → DiskState) where
         go (Err e) k = tt
         go (Ok told) k = (k.0, subst (λ (s : WorldStep). IsDone state w s told new) (sym (steps k.0)) k.1, totals_as old new (a k.0) (b k.0) (faults k.0) k.2)
 
-    -- a crash of the Store
+    -- a crash of a Store
     pub counted_done : (lucks : Lucks) (s : StoreHost D) (given : facts.Answer) → IfOk result (λ told. IsDone state w (f lucks) told new)
         → IfOk result (λ told. HasTold (record old { store = s }) new given told) → IsCounted state (a lucks) old.store.tables s.tables → ComesCounted state w f a result old new
     counted_done lucks s given k t c = go result k t

@@ -1,6 +1,6 @@
--- A table more, and a client more.
-use Rattle.std.proofs.Common.{◌≡◌, ⊎_elim, ℕ, ◌+◌, ◌-◌, ◌*◌, ◌<◌, ◌≤◌, Bool, true, false, cond, List, [], ◌∷◌, ◌++◌, length, Option, Some, None, refl, sym, ◌∙◌, ap, subst, arith, length-append}
-use Rattle.std.specs.Prelude.{◌≢◌, is_some, ◌==◌, ◌||◌, not}
+-- A Store more, a table more, and a client more.
+use Rattle.std.proofs.Common.{◌≡◌, ⊎_elim, ℕ, ◌+◌, ◌-◌, ◌*◌, ◌<◌, ◌≤◌, Bool, true, false, cond, List, [], ◌∷◌, ◌++◌, length, Option, Some, None, Ok, refl, sym, ◌∙◌, ap, subst, arith, length-append}
+use Rattle.std.specs.Prelude.{◌≢◌, is_some, ◌==◌, ◌||◌}
 use Rattle.std.specs.Ordering.{nat_cmp}
 use Rattle.std.specs.Cmp.{nat_cmp_total}
 use Rattle.std.specs.BTreeMap.{is_at}
@@ -21,10 +21,11 @@ use Rattle.step_tables.specs.Messages.{Luck}
 use Rattle.step_tables.specs.Messages as messages
 use Rattle.step_tables.proofs.Lists.{lookup-insert}
 use Rattle.store_host.specs.declared.host.StoreHost.{StoreHost}
-use Rattle.store_host.specs.Holds.{HoldsStore, outs_of}
+use Rattle.store_host.specs.Holds.{HoldsStore}
+use Rattle.store_host.specs.Holds as stores
 use Rattle.store_host.specs.Steps.{new_table, faults_of}
 use Rattle.store_host.proofs.Maps.{not_found}
-use Rattle.world_tables.specs.World.{no_lucks, Hosted, schema_at, hosted_at, client_at, with_table, made_with, declared, joined, step, owner, the_store, is_down, store_falls}
+use Rattle.world_tables.specs.World.{no_lucks, Hosted, schema_at, hosted_at, client_at, owner_of, with_store, with_table, made_with, declared, joined, step}
 use Rattle.world_tables.specs.World as moves
 use Rattle.world_tables.specs.Faults.{is_failure, fails_new, fails_joined}
 use Rattle.journal_laws.specs.Moves.{opened_record}
@@ -42,15 +43,43 @@ use Rattle.node_steps.specs.declared.told.Told.{Told}
 use Rattle.node_steps.specs.declared.world.World.{World}
 use Rattle.node_steps.specs.Numbers.{AreNumbered}
 use Rattle.node_steps.specs.Holds.{Holds, AreOut, first_disk, first_client_disk}
-use Rattle.node_steps.specs.Faults.{IsCounted, AreTotals, IsUndone}
+use Rattle.node_steps.specs.Faults.{IsCounted, AreTotals, ComesCounted, IsUndone}
 use Rattle.node_steps.specs.Calls.{with_calls}
 use Rattle.node_steps.specs.Steps.{IsStep}
 use Rattle.node_steps.specs.Told.{IsOnly}
 use Rattle.node_steps.proofs.Rows.{Stays}
-use Rattle.node_steps.proofs.Counted.{tables_counted, client_counted}
-use Rattle.node_steps.proofs.Going.{store_falls_goes}
+use Rattle.node_steps.proofs.Counted.{tables_counted, client_counted, tables_same, clients_still, all_same}
+use Rattle.node_steps.proofs.Staying.{store_stays}
 use Rattle.node_steps.proofs.Showing.{some_of}
-use Rattle.node_steps.proofs.Done.{Rest, rest_of, rest_behind, whole, no_outs_told}
+use Rattle.node_steps.proofs.Done.{Rest, rest_of, whole, no_outs_told}
+
+-- ---- a Store more
+
+pub store_declared : {D : Type 0} (state : D → DiskState) (w : moves.World) (old : World D) (number : ℕ) (store : StoreHost D) (it : Told) → Holds state w old → IsOnly [] it
+    → HoldsStore state (with_store number w) store → store.outs ≡ old.store.outs → stores.SameFaults state old.store.tables store.tables
+    → ComesCounted state w (step w (events.Store number)) (λ lucks. false) (Ok it) old (record old { store = store })
+store_declared {D} state w old number store it h only held told same = (
+  no_lucks,
+  record {
+    lines_are = only.lines_are;
+    outs_are = no_outs_told (owner_of (step w (events.Store number) no_lucks).world) it.outs only.none;
+    held = record {
+      schemas = h.schemas;
+      store = held;
+      clients = clients_stay state w (with_store number w) old.clients h.clients (record { clients = refl; cuts = refl; phases = refl });
+      store_told = told ∙ h.store_told;
+      clients_told = h.clients_told;
+      held = h.held;
+      numbered = record { both = h.numbered.both; tables = h.numbered.tables; clients = h.numbered.clients };
+    };
+    tables = λ table. refl;
+    clients = λ c. refl;
+  },
+  record {
+    rose = λ no. absurd cc;
+    same = λ f. all_same state old (record old { store = store }) (tables_same state old (record old { store = store }) same) (clients_still state old (record old { store = store }) refl);
+  },
+)
 
 -- ---- a table more
 
@@ -63,66 +92,57 @@ module _ {D : Type 0} (state : D → DiskState) (w : moves.World) (table : ℕ) 
   unknown : schema_at w table ≡ None
   unknown = nothing_at (schema_at w table) (r.numbered.both table ∙ ap (λ (o : Option Hosted). is_some o) none)
 
-  known : (made up : Bool) (q : ℕ) → schema_at (with_table w table schema made up) q ≡ cond (is_at (nat_cmp table) q) (Some schema) (schema_at w q)
-  known made up q = lookup-insert nat_cmp nat_cmp_total w.schemas table schema q
+  known : (made : Bool) (q : ℕ) → schema_at (with_table w table schema made) q ≡ cond (is_at (nat_cmp table) q) (Some schema) (schema_at w q)
+  known made q = lookup-insert nat_cmp nat_cmp_total w.schemas table schema q
 
-  there : (made up : Bool) (q : ℕ) → hosted_at (with_table w table schema made up) q ≡ cond (is_at (nat_cmp table) q) (Some (new_table made up)) (hosted_at w q)
-  there made up q = lookup-insert nat_cmp nat_cmp_total w.tables table (new_table made up) q
+  there : (made : Bool) (q : ℕ) → hosted_at (with_table w table schema made) q ≡ cond (is_at (nat_cmp table) q) (Some (new_table made)) (hosted_at w q)
+  there made q = lookup-insert nat_cmp nat_cmp_total w.tables table (new_table made) q
 
-  numbered_with : (made up : Bool) → AreNumbered (with_table w table schema made up)
-  numbered_with made up = record {
-    both = λ q. ap (λ (o : Option Schema). is_some o) (known made up q) ∙ (go q (is_at (nat_cmp table) q) ∙ sym (ap (λ (o : Option Hosted). is_some o) (there made up q)));
-    tables = λ q is. near q (is_at (nat_cmp table) q) refl (sym (ap (λ (o : Option Hosted). is_some o) (there made up q)) ∙ is);
+  numbered_with : (made : Bool) → AreNumbered (with_table w table schema made)
+  numbered_with made = record {
+    both = λ q. ap (λ (o : Option Schema). is_some o) (known made q) ∙ (go q (is_at (nat_cmp table) q) ∙ sym (ap (λ (o : Option Hosted). is_some o) (there made q)));
+    tables = λ q is. near q (is_at (nat_cmp table) q) refl (sym (ap (λ (o : Option Hosted). is_some o) (there made q)) ∙ is);
     clients = r.numbered.clients;
   }
     where
-      go : (q : ℕ) (b : Bool) → is_some (cond b (Some schema) (schema_at w q)) ≡ is_some (cond b (Some (new_table made up)) (hosted_at w q))
+      go : (q : ℕ) (b : Bool) → is_some (cond b (Some schema) (schema_at w q)) ≡ is_some (cond b (Some (new_table made)) (hosted_at w q))
       go q true = refl
       go q false = r.numbered.both q
 
-      near : (q : ℕ) (b : Bool) → is_at (nat_cmp table) q ≡ b → is_some (cond b (Some (new_table made up)) (hosted_at w q)) ≡ true → (1 ≤ q) × (q ≤ 64)
+      near : (q : ℕ) (b : Bool) → is_at (nat_cmp table) q ≡ b → is_some (cond b (Some (new_table made)) (hosted_at w q)) ≡ true → (1 ≤ q) × (q ≤ 64)
       near q true e is = subst (λ (k : ℕ). (1 ≤ k) × (k ≤ 64)) (at_same table q e) range
       near q false e is = r.numbered.tables q is
 
-  rest_with : (made up : Bool) → Rest state (with_table w table schema made up) (record old { schemas = schemas })
-  rest_with made up = record {
-    schemas = λ q. put q ∙ (ap (λ (o : Option Schema). cond (is_at (nat_cmp table) q) (Some schema) o) (r.schemas q) ∙ sym (known made up q));
-    clients = clients_stay state w (with_table w table schema made up) old.clients r.clients (record { clients = refl; cuts = refl; phases = refl });
+  rest_with : (made : Bool) → Rest state (with_table w table schema made) (record old { schemas = schemas })
+  rest_with made = record {
+    schemas = λ q. put q ∙ (ap (λ (o : Option Schema). cond (is_at (nat_cmp table) q) (Some schema) o) (r.schemas q) ∙ sym (known made q));
+    clients = clients_stay state w (with_table w table schema made) old.clients r.clients (record { clients = refl; cuts = refl; phases = refl });
     clients_told = r.clients_told;
     held = r.held;
-    downs = r.downs;
-    numbered = numbered_with made up;
+    numbered = numbered_with made;
   }
 
-  fallen_rest : Rest state (store_falls owner (with_table w table schema false false)).world (record old { schemas = schemas })
-  fallen_rest =
-      let x = with_table w table schema false false in
-      rest_behind state x (record old { schemas = schemas }) (rest_with false false) (store_falls owner x) (store_falls_goes x) old.store
-
   pub made_rest : (luck : Luck) → Rest state (made_with w table schema luck) (record old { schemas = schemas })
-  made_rest messages.Done = rest_with true (not (is_down w the_store))
-  made_rest messages.FailedBefore = fallen_rest
-  made_rest messages.FailedAfter = fallen_rest
+  made_rest messages.Done = rest_with true
+  made_rest messages.FailedBefore = rest_with false
+  made_rest messages.FailedAfter = rest_with false
 
-  with_there : (made up : Bool) (q : ℕ) → is_some (hosted_at (with_table w table schema made up) q) ≡ cond (is_at (nat_cmp table) q) true (is_some (hosted_at w q))
-  with_there made up q = ap (λ (o : Option Hosted). is_some o) (there made up q) ∙ go (is_at (nat_cmp table) q)
+  with_there : (made : Bool) (q : ℕ) → is_some (hosted_at (with_table w table schema made) q) ≡ cond (is_at (nat_cmp table) q) true (is_some (hosted_at w q))
+  with_there made q = ap (λ (o : Option Hosted). is_some o) (there made q) ∙ go (is_at (nat_cmp table) q)
     where
-      go : (b : Bool) → is_some (cond b (Some (new_table made up)) (hosted_at w q)) ≡ cond b true (is_some (hosted_at w q))
+      go : (b : Bool) → is_some (cond b (Some (new_table made)) (hosted_at w q)) ≡ cond b true (is_some (hosted_at w q))
       go true = refl
       go false = refl
 
   pub made_there : (luck : Luck) (q : ℕ) → is_some (hosted_at (made_with w table schema luck) q) ≡ cond (is_at (nat_cmp table) q) true (is_some (hosted_at w q))
-  made_there messages.Done q = with_there true (not (is_down w the_store)) q
-  made_there messages.FailedBefore q = (store_falls_goes (with_table w table schema false false)).tables q ∙ with_there false false q
-  made_there messages.FailedAfter q = (store_falls_goes (with_table w table schema false false)).tables q ∙ with_there false false q
-
-  clients_at : (after : moves.World) → after.clients ≡ w.clients → (c : ℕ) → is_some (client_at after c) ≡ is_some (client_at w c)
-  clients_at after same c = ap (λ (cs : List (ℕ × Client)). is_some (client_at (record w { clients = cs }) c)) same
+  made_there messages.Done q = with_there true q
+  made_there messages.FailedBefore q = with_there false q
+  made_there messages.FailedAfter q = with_there false q
 
   pub made_clients : (luck : Luck) (c : ℕ) → is_some (client_at (made_with w table schema luck) c) ≡ is_some (client_at w c)
   made_clients messages.Done c = refl
-  made_clients messages.FailedBefore c = let x = with_table w table schema false false in clients_at (store_falls owner x).world (store_falls_goes x).clients c
-  made_clients messages.FailedAfter c = let x = with_table w table schema false false in clients_at (store_falls owner x).world (store_falls_goes x).clients c
+  made_clients messages.FailedBefore c = refl
+  made_clients messages.FailedAfter c = refl
 
 -- ---- its disks
 
@@ -201,7 +221,7 @@ module _ {D : Type 0} (state : D → DiskState) (images : D → ℕ → List ℕ
     lucks = with_calls (luck ∷ []);
     rows = stay (with_calls (luck ∷ []));
     lines_are = only.lines_are;
-    outs_are = no_outs_told it.outs only.none;
+    outs_are = no_outs_told (owner_of (step w (events.Table table schema) (with_calls (luck ∷ []))).world) it.outs only.none;
     held = subst (λ (o : Option Hosted). Holds state (declared w table schema luck o) new) (sym none) behind;
     rose = λ t. (tables_counted state (made_with w table schema luck) old new (is_failure luck) behind counted refl).rose (sym fails ∙ t);
     same = λ f. (tables_counted state (made_with w table schema luck) old new (is_failure luck) behind counted refl).same (sym fails ∙ f);
@@ -217,11 +237,11 @@ module _ {D : Type 0} (state : D → DiskState) (images : D → ℕ → List ℕ
       fails = ap (λ (o : Option Hosted). fails_new o (luck ∷ [])) none
 
       again : Rest state (made_with w table schema luck) (record old { schemas = schemas }) → Rest state (made_with w table schema luck) new
-      again x = record { schemas = x.schemas; clients = x.clients; clients_told = x.clients_told; held = x.held; downs = x.downs; numbered = x.numbered }
+      again x = record { schemas = x.schemas; clients = x.clients; clients_told = x.clients_told; held = x.held; numbered = x.numbered }
 
       behind : Holds state (made_with w table schema luck) new
       behind = whole state (made_with w table schema luck) new (again (made_rest state w table schema old (rest_of state w old h) none schemas put one luck)) held
-          (ap (λ (os : _). outs_of (record old.store { outs = os })) told ∙ h.store_told)
+          (told ∙ h.store_told)
 
   stays_there : (old : World D) (hosted : Hosted) → Holds state w old → AreOut is_out w → hosted_at w table ≡ Some hosted → Stays state images w (events.Table table schema) old old
       → IsStep state images w (events.Table table schema) it is_out old old
@@ -229,7 +249,7 @@ module _ {D : Type 0} (state : D → DiskState) (images : D → ℕ → List ℕ
     lucks = no_lucks;
     rows = stay no_lucks;
     lines_are = only.lines_are;
-    outs_are = no_outs_told it.outs only.none;
+    outs_are = no_outs_told (owner_of (step w (events.Table table schema) no_lucks).world) it.outs only.none;
     held = subst (λ (o : Option Hosted). Holds state (declared w table schema messages.Done o) old) (sym at) h;
     out = subst (λ (o : Option Hosted). AreOut is_out (declared w table schema messages.Done o)) (sym at) outs;
     rose = λ t. let no : false ≡ true = sym (ap (λ (o : Option Hosted). fails_new o []) at) ∙ t in absurd cc;
@@ -249,7 +269,7 @@ module _ {D : Type 0} (state : D → DiskState) (images : D → ℕ → List ℕ
   made_ok old schemas store h outs none one put u k told stay = made_step old schemas store h outs none one put u k.0 k.1 k.2 told stay
 
 pub not_there : {D : Type 0} (state : D → DiskState) (w : moves.World) (table : ℕ) (world : World D) → Holds state w world → tree.get nat_cmp world.store.tables table ≡ None → hosted_at w table ≡ None
-not_there state w table world h none = not_found state w world.store.numbers world.store.tables table h.store.tables (sym none)
+not_there state w table world h none = not_found state w world.store.tables table h.store.tables (sym none)
 
 pub not_out : {D : Type 0} (state : D → DiskState) (w : moves.World) (table : ℕ) (world : World D) → Holds state w world → (is_out : ℕ → Bool) → AreOut is_out w
     → tree.get nat_cmp world.store.tables table ≡ None → 1 ≤ table → table ≤ 64 → (k : ℕ) → k < 3 → is_out (first_disk table + k) ≡ false
@@ -323,20 +343,14 @@ module _ {D : Type 0} (state : D → DiskState) (w : moves.World) (old : World D
       one q true is there = subst IsClient (at_same c q is) number
       one q false is there = h.numbered.clients q there
 
-  joined_held : (host : ClientHost D) → HoldsClients state after host → clients.outs_of host ≡ clients.outs_of old.clients → Holds state after (record old { clients = host })
+  joined_held : (host : ClientHost D) → HoldsClients state after host → host.outs.items ≡ old.clients.outs.items → Holds state after (record old { clients = host })
   joined_held host k told = record {
     schemas = h.schemas;
-    store = record {
-      number = h.store.number;
-      up = h.store.up;
-      tables = record { there = h.store.tables.there; all = h.store.tables.all; keys = h.store.tables.keys; rising = h.store.tables.rising };
-      ups = h.store.ups;
-    };
+    store = store_stays state w old.store after.clients w.packets w.holds w.cuts w.phases h.store;
     clients = k;
     store_told = h.store_told;
     clients_told = told ∙ h.clients_told;
     held = h.held;
-    downs = h.downs;
     numbered = joined_numbered;
   }
 
@@ -386,14 +400,14 @@ module _ {D : Type 0} (state : D → DiskState) (images : D → ℕ → List ℕ
   join_step : (out : ℕ → Bool) (old : World D) (host : ClientHost D) (disks : D × D × D) (luck : Luck) → Holds state w old → AreOut is_out w → tree.get nat_cmp old.clients.clients c ≡ None
       → client_at w c ≡ None → IsClient c → ((k : ℕ) → out k ≡ with_three (first_client_disk c) is_out k) → faults_of state disks.0 disks.1 disks.2 ≡ 0
       → HoldsClients state (joined w c tables luck (client_at w c)) host → HasJoinLuck state disks luck (clients.faults_at state host.clients c)
-      → ((q : ℕ) → q ≢ c → clients.faults_at state host.clients q ≡ clients.faults_at state old.clients.clients q) → clients.outs_of host ≡ clients.outs_of old.clients
+      → ((q : ℕ) → q ≢ c → clients.faults_at state host.clients q ≡ clients.faults_at state old.clients.clients q) → host.outs.items ≡ old.clients.outs.items
       → Stays state images w (events.Client c gate tables) old (record old { clients = host })
       → IsStep state images w (events.Client c gate tables) it out old (record old { clients = host })
   join_step out old host disks luck h outs none absent number u sound held k others told stay = record {
     lucks = with_calls (luck ∷ []);
     rows = stay (with_calls (luck ∷ []));
     lines_are = only.lines_are;
-    outs_are = no_outs_told it.outs only.none;
+    outs_are = no_outs_told (owner_of (step w (events.Client c gate tables) (with_calls (luck ∷ []))).world) it.outs only.none;
     held = subst (λ (o : Option Client). Holds state (joined w c tables luck o) new) (sym absent) behind;
     out = subst (λ (o : Option Client). AreOut out (joined w c tables luck o)) (sym absent) (joined_out state w old c tables luck h absent number is_out out outs u);
     rose = λ t. totals.rose (sym fails ∙ t);
@@ -417,7 +431,7 @@ module _ {D : Type 0} (state : D → DiskState) (images : D → ℕ → List ℕ
   pub join_ok : (out : ℕ → Bool) (old : World D) (host : ClientHost D) (disks : D × D × D) → Holds state w old → AreOut is_out w → tree.get nat_cmp old.clients.clients c ≡ None → IsClient c
       → ((k : ℕ) → out k ≡ with_three (first_client_disk c) is_out k) → faults_of state disks.0 disks.1 disks.2 ≡ 0
       → (luck : Luck) × HoldsClients state (joined w c tables luck (client_at w c)) host × HasJoinLuck state disks luck (clients.faults_at state host.clients c)
-      → ((q : ℕ) → q ≢ c → clients.faults_at state host.clients q ≡ clients.faults_at state old.clients.clients q) → clients.outs_of host ≡ clients.outs_of old.clients
+      → ((q : ℕ) → q ≢ c → clients.faults_at state host.clients q ≡ clients.faults_at state old.clients.clients q) → host.outs.items ≡ old.clients.outs.items
       → Stays state images w (events.Client c gate tables) old (record old { clients = host })
       → IsStep state images w (events.Client c gate tables) it out old (record old { clients = host })
   join_ok out old host disks h outs none number u sound k others told stay =
@@ -432,7 +446,7 @@ module _ {D : Type 0} (state : D → DiskState) (images : D → ℕ → List ℕ
         lucks = no_lucks;
         rows = stay no_lucks;
         lines_are = only.lines_are;
-        outs_are = no_outs_told it.outs only.none;
+        outs_are = no_outs_told (owner_of (step w (events.Client c gate tables) no_lucks).world) it.outs only.none;
         held = subst (λ (o : Option Client). Holds state (joined w c tables messages.Done o) old) (sym at) h;
         out = subst (λ (o : Option Client). AreOut is_out (joined w c tables messages.Done o)) (sym at) outs;
         rose = λ t. let no : false ≡ true = sym (ap (λ (o : Option Client). fails_joined o []) at) ∙ t in absurd cc;

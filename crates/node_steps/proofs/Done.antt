@@ -1,4 +1,4 @@
--- What a call of the world comes to: an answer alone, moves of the Store that are told, and nodes that are down.
+-- What a call of the world comes to: an answer alone, moves of Stores that are told, and nodes that are down.
 use Rattle.std.proofs.Common.{◌≡◌, ℕ, Bool, true, false, List, [], ◌∷◌, ◌++◌, Option, Result, Ok, Err, refl, sym, ◌∙◌, ap, subst}
 use Rattle.std.specs.Prelude.{IfOk, if◌then◌else◌, is_some, not}
 use Rattle.std.specs.Ordering.{nat_cmp}
@@ -11,33 +11,32 @@ use Rattle.step_tables.specs.Facts.{AnswerLine}
 use Rattle.step_tables.specs.Facts as facts
 use Rattle.step_tables.specs.Lines.{answer_of}
 use Rattle.step_tables.specs.ClientMoves.{Client}
-use Rattle.world_tables.specs.World.{Lucks, no_lucks, Moved, Outbox, WorldStep, answering, answered, refused, unless_down, is_down, same_node, has_node, the_store}
+use Rattle.world_tables.specs.World.{Lucks, no_lucks, Moved, WorldStep, owner_of, answering, answered, refused, unless_down, is_down, has_node}
 use Rattle.world_tables.specs.World.{schema_at, client_at}
 use Rattle.world_tables.specs.World as moves
 use Rattle.store_host.specs.declared.host.StoreHost.{StoreHost}
-use Rattle.store_host.specs.Holds.{HoldsStore, IsStore, outs_of, said_by}
+use Rattle.store_host.specs.declared.hosted.TableOut.{TableOut}
+use Rattle.store_host.specs.Holds.{HoldsStore, IsStore, outs_of, outs_in, said_by}
 use Rattle.journal_host.specs.Holds.{HoldsClients}
-use Rattle.journal_host.specs.Holds as nodes
 use Rattle.journal_host.proofs.Clients.{clients_stay}
 use Rattle.node_steps.specs.declared.fault.WorldFault.{WorldFault}
 use Rattle.node_steps.specs.declared.told.Outs.{Outs}
 use Rattle.node_steps.specs.declared.told.Outs.TheVariants as sent
 use Rattle.node_steps.specs.declared.told.Told.{Told}
 use Rattle.node_steps.specs.declared.world.World.{World}
-use Rattle.node_steps.specs.Nodes.{HasNodes, is_in}
+use Rattle.node_steps.specs.Nodes.{HasNodes}
 use Rattle.node_steps.specs.Numbers.{AreNumbered}
 use Rattle.node_steps.specs.Holds.{Holds}
 use Rattle.node_steps.specs.Outs.{Goes, IsAnswered}
 use Rattle.node_steps.specs.Calls.{IsDone, Comes, HasTold}
 use Rattle.node_steps.specs.Told.{AreOuts, IsOnly}
-use Rattle.node_steps.proofs.NodeSets.{same_is}
 
 pub held_store : {D : Type 0} (state : D → DiskState) (w : moves.World) (world : World D) → Holds state w world → IsStore state world.store
 held_store state w world h = (w, h.store)
 
 -- nothing was told or sent
-pub no_outs_told : (o : Outs) → o ≡ sent.Nothing → AreOuts o []
-no_outs_told o is = subst (λ (x : Outs). AreOuts x []) (sym is) refl
+pub no_outs_told : (owners : ℕ → ℕ) (o : Outs) → o ≡ sent.Nothing → AreOuts owners o []
+no_outs_told owners o is = subst (λ (x : Outs). AreOuts owners x []) (sym is) refl
 
 -- ---- a world that stays
 
@@ -45,7 +44,7 @@ module _ {D : Type 0} (state : D → DiskState) (w : moves.World) (world : World
   pub stays : (a : facts.Answer) (result : Result Told WorldFault) → IfOk result (IsOnly (AnswerLine a ∷ []))
       → Comes state w (λ lucks. answered w a) result world
   stays a (Err e) k = tt
-  stays a (Ok told) k = (no_lucks, record { lines_are = k.lines_are; outs_are = no_outs_told told.outs k.none; held = h; tables = λ t. refl; clients = λ c. refl })
+  stays a (Ok told) k = (no_lucks, record { lines_are = k.lines_are; outs_are = no_outs_told (owner_of w) told.outs k.none; held = h; tables = λ t. refl; clients = λ c. refl })
 
 -- ---- another step that is the same
 
@@ -69,20 +68,11 @@ module _ {D : Type 0} (state : D → DiskState) (w : moves.World) (node : Node) 
   pub up_goes_on : (new : World D) → false ≡ is_down w node → Comes state w f result new → Comes state w (λ lucks. unless_down w node (f lucks)) result new
   up_goes_on new is k = comes_as state w (λ lucks. unless_down w node (f lucks)) f result new (λ lucks. unless_is false (sym is) (f lucks)) k
 
-pub owner_comes : {D : Type 0} (state : D → DiskState) (w : moves.World) (node : Node) → same_node node the_store ≡ true
-    → (f : Node → Lucks → WorldStep) (result : Result Told WorldFault)
-    (new : World D) → Comes state w (f the_store) result new → Comes state w (f node) result new
-owner_comes state w node is f result new k = subst (λ (n : Node). Comes state w (f n) result new) (sym (same_is node the_store is)) k
-
-pub up_now : (b : Bool) → false ≡ not b → b ≡ true
+pub up_now : (b : Bool) → not b ≡ false → b ≡ true
 up_now true e = refl
 up_now false e = absurd cc
 
-pub down_now : (b : Bool) → true ≡ not b → b ≡ false
-down_now false e = refl
-down_now true e = absurd cc
-
--- ---- moves of the Store
+-- ---- moves of Stores
 
 schema_same : (w after : moves.World) → after.schemas ≡ w.schemas → (table : ℕ) → schema_at after table ≡ schema_at w table
 schema_same w after same table = ap (λ (es : List (ℕ × Schema)). schema_at (record w { schemas = es }) table) same
@@ -90,13 +80,12 @@ schema_same w after same table = ap (λ (es : List (ℕ × Schema)). schema_at (
 pub same_client : (w after : moves.World) → after.clients ≡ w.clients → (c : ℕ) → is_some (client_at after c) ≡ is_some (client_at w c)
 same_client w after same c = ap (λ (cs : List (ℕ × Client)). is_some (client_at (record w { clients = cs }) c)) same
 
--- what the program's world holds of a world beside the Store
+-- what the program's world holds of a world beside the Stores
 pub record Rest {D : Type 0} (state : D → DiskState) (w : moves.World) (world : World D) : Type 0 where
   pub schemas : (table : ℕ) → tree.get nat_cmp world.schemas table ≡ schema_at w table
   pub clients : HoldsClients state w world.clients
-  pub clients_told : nodes.outs_of world.clients ≡ []
+  pub clients_told : world.clients.outs.items ≡ []
   pub held : HasNodes w.holds world.held
-  pub downs : (node : Node) → same_node node the_store ≡ false → is_in world.downs node ≡ has_node w.downs node
   pub numbered : AreNumbered w
 
 pub rest_of : {D : Type 0} (state : D → DiskState) (w : moves.World) (world : World D) → Holds state w world → Rest state w world
@@ -105,11 +94,10 @@ rest_of state w world h = record {
   clients = h.clients;
   clients_told = h.clients_told;
   held = h.held;
-  downs = h.downs;
   numbered = h.numbered;
 }
 
-pub whole : {D : Type 0} (state : D → DiskState) (w : moves.World) (world : World D) → Rest state w world → HoldsStore state w world.store → outs_of world.store ≡ [] → Holds state w world
+pub whole : {D : Type 0} (state : D → DiskState) (w : moves.World) (world : World D) → Rest state w world → HoldsStore state w world.store → world.store.outs ≡ [] → Holds state w world
 whole state w world r store told = record {
   schemas = r.schemas;
   store = store;
@@ -117,7 +105,6 @@ whole state w world r store told = record {
   store_told = told;
   clients_told = r.clients_told;
   held = r.held;
-  downs = r.downs;
   numbered = r.numbered;
 }
 
@@ -135,7 +122,6 @@ module _ {D : Type 0} (state : D → DiskState) (w : moves.World) (old : World D
     clients = clients_stay state w m.world old.clients r.clients (record { clients = g.clients; cuts = g.cuts; phases = g.phases });
     clients_told = r.clients_told;
     held = λ node. r.held node ∙ ap (λ (ns : List Node). has_node ns node) (sym g.holds);
-    downs = λ node apart. r.downs node apart ∙ sym (g.downs node apart);
     numbered = numbered_behind;
   }
 
@@ -147,19 +133,19 @@ module _ {D : Type 0} (state : D → DiskState) (w : moves.World) (old : World D
   told_done a s given (Ok told) new f lucks is k t =
       subst (λ (x : WorldStep). IsDone state w x told new) (sym is) (record {
         lines_are = t.lines_are ∙ ap (λ (x : facts.Answer). AnswerLine x ∷ []) k.answer_is;
-        outs_are = subst (λ (o : Outs). AreOuts o m.outs) (sym t.outs_are) waiting;
+        outs_are = subst (λ (o : Outs). AreOuts (owner_of m.world) o m.outs) (sym t.outs_are) waiting;
         held = subst (λ (x : World D). Holds state m.world x) (sym t.same)
-            (whole state m.world (record old { store = new.store }) (rest_behind state w old (rest_of state w old h) m g new.store) held (ap (λ (x : StoreHost D). outs_of x) t.store));
+            (whole state m.world (record old { store = new.store }) (rest_behind state w old (rest_of state w old h) m g new.store) held (ap (λ (x : StoreHost D). x.outs) t.store));
         tables = g.tables;
         clients = same_client w m.world g.clients;
       })
     where
       waiting : outs_of s ≡ said_by m
-      waiting = k.moved.outs ∙ ap (λ (os : List Outbox). os ++ said_by m) h.store_told
+      waiting = k.moved.outs ∙ ap (λ (outs : List TableOut). outs_in outs ++ said_by m) h.store_told
 
       held : HoldsStore state m.world new.store
       held = subst (λ (x : StoreHost D). HoldsStore state m.world x) (sym t.store)
-          (record { number = k.moved.held.number; up = k.moved.held.up; tables = k.moved.held.tables; ups = k.moved.held.ups })
+          (record { ring = k.moved.held.ring; stores = k.moved.held.stores; tables = k.moved.held.tables; downs = k.moved.held.downs; ups = k.moved.held.ups })
 
   -- they are told
   pub told_moves : (a : facts.Answer) (s : StoreHost D) (given : Answer) (result : Result Told WorldFault) (new : World D) (f : Lucks → WorldStep) (lucks : Lucks)

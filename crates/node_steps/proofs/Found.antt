@@ -1,22 +1,26 @@
 -- What a read of a node's disks comes to, and which nodes may be read.
 use Rattle.std.proofs.Common.{◌≡◌, ℕ, Bool, true, false, List, [], ◌∷◌, Option, Some, None, Result, Ok, Err, refl, sym, ◌∙◌, ap, subst, rules}
-use Rattle.std.specs.Prelude.{IfOk, IsSome, is_some, not, ◌&&◌}
+use Rattle.std.specs.Prelude.{IfOk, IsSome, is_some, not, ◌&&◌, ◌||◌}
 use Rattle.std.specs.Ordering.{nat_cmp}
 use Rattle.std.specs.BTreeMap as tree
 use Rattle.disk_trait.specs.Calls.{DiskState}
+use Rattle.stab_base.specs.declared.node.Node.{Node}
 use Rattle.stab_base.specs.declared.node.Node.TheVariants as nodes
 use Rattle.table_model.specs.declared.line.Answer.TheVariants as answers
 use Rattle.table_model.specs.declared.line.Refusal.TheVariants as refusals
 use Rattle.step_tables.specs.Facts as facts
 use Rattle.step_tables.specs.Store.{current_of}
-use Rattle.step_tables.specs.StoreMoves.{StoreTask}
+use Rattle.step_tables.specs.StoreMoves.{StoreDisk, StoreTask}
+use Rattle.store_node.specs.declared.node.TableNode.{TableNode}
+use Rattle.store_node.specs.Node.{IsTable}
 use Rattle.step_tables.specs.ClientMoves.{Client, ClientTask}
 use Rattle.store_node.specs.Calls.{IsRowAt}
 use Rattle.store_node.specs.declared.showing.WholeRow.{WholeRow}
 use Rattle.store_host.specs.declared.host.StoreHost.{StoreHost}
 use Rattle.store_host.specs.declared.hosted.Hosted.{Hosted as Kept}
+use Rattle.store_host.specs.declared.store.StoreState.{StoreState}
 use Rattle.store_host.specs.Calls.{IsMoved}
-use Rattle.store_host.specs.Holds.{HoldsStore, HostedThere, SameFaults, RisenFaults}
+use Rattle.store_host.specs.Holds.{HoldsStore, HostedThere, StoreThere, IsUpAt, IsUpNode, SameFaults, RisenFaults, store_in, owner_at, is_up_by, is_up_at, is_up_if, is_up_for}
 use Rattle.client_node.specs.declared.node.ClientNode.{ClientNode}
 use Rattle.journal_host.specs.declared.host.ClientHost.{ClientHost}
 use Rattle.journal_host.specs.Calls as events
@@ -24,7 +28,7 @@ use Rattle.journal_host.specs.Holds.{HoldsClients}
 use Rattle.journal_host.specs.Holds as hosts
 use Rattle.journal_host.proofs.Clients.{found, not_found, up_is, down_is}
 use Rattle.world_tables.specs.Ready.{is_idle, is_idle_table, is_table_ready, is_idle_client, is_client_ready}
-use Rattle.world_tables.specs.World.{no_lucks, Hosted, answering, failing, hosted_at, client_at, schema_at, store_falls, client_falls, owner, the_store, is_down, is_cut, is_client_down, is_at_work}
+use Rattle.world_tables.specs.World.{no_lucks, Hosted, answering, failing, hosted_at, client_at, schema_at, store_falls, client_falls, owner_of, is_down, is_cut, is_client_down, is_at_work, owner_by, has_store, has_node, has_unmade}
 use Rattle.world_tables.specs.World as moves
 use Rattle.node_steps.specs.declared.fault.WorldFault.{WorldFault}
 use Rattle.node_steps.specs.declared.told.Read.{Read}
@@ -37,7 +41,9 @@ use Rattle.node_steps.specs.Holds.{Holds}
 use Rattle.node_steps.specs.Reads.{HasFound, HasFallen, HasRead, IsRowIn, TellsFall}
 use Rattle.node_steps.proofs.Clients.{still_store, still_clients, told_one}
 use Rattle.node_steps.proofs.Counted.{some_failed, tables_counted, client_counted}
+use Rattle.store_host.proofs.Serving.{up_table}
 use Rattle.node_steps.proofs.Done.{told_done}
+use Rattle.node_steps.proofs.Declared.{nothing_at}
 use Rattle.node_steps.proofs.Going.{failing_goes, store_falls_goes}
 use Rattle.node_steps.proofs.Keeping.{falls_keeps}
 use Rattle.node_steps.proofs.Showing.{some_of, none_of, there_at}
@@ -50,31 +56,86 @@ and_second : (a b : Bool) → (a && b) ≡ true → b ≡ true
 and_second true b e = e
 and_second false b e = absurd cc
 
-turned : (a b : Bool) → a ≡ not b → a ≡ true → b ≡ false
-turned a true e f = absurd cc
-turned a false e f = refl
+turned : (b : Bool) → not b ≡ true → b ≡ false
+turned true e = absurd cc
+turned false e = refl
+
+or_second : (a b : Bool) → (a || b) ≡ false → b ≡ false
+or_second false b e = e
+or_second true b e = absurd cc
+
+-- ---- a table that is up, and its Store
+
+module _ {D : Type 0} (state : D → DiskState) (w : moves.World) (store : StoreHost D) (table : ℕ) (h : HoldsStore state w store) where
+  abbrev at_owner : ℕ
+  at_owner = owner_of w table
+
+  up_at : is_down w (nodes.Store at_owner) ≡ false → is_up_at store at_owner ≡ true
+  up_at up = go (tree.get nat_cmp store.stores at_owner) (h.stores at_owner)
+    where
+      go : (o : Option StoreState) → StoreThere w at_owner o → is_up_by o ≡ true
+      go None k = let no : true ≡ false = sym (ap (λ (b : Bool). not b || (has_node w.downs (nodes.Store at_owner) || has_unmade w at_owner)) k) ∙ up in absurd cc
+      go (Some it) k =
+          ap not (ap (λ (b : Bool). b || it.is_late) k.down
+          ∙ (ap (λ (b : Bool). has_node w.downs (nodes.Store at_owner) || b) k.late
+          ∙ or_second (not (has_store w at_owner)) (has_node w.downs (nodes.Store at_owner) || has_unmade w at_owner) up))
+
+  -- a table whose owner is up
+  pub up_there : is_down w (nodes.Store at_owner) ≡ false → is_up_for store table ≡ true
+  up_there up = go (hosted_at w table) (tree.get nat_cmp store.tables table) (h.tables.there table)
+    where
+      go : (o : Option Hosted) (it : Option (Kept D)) → HostedThere state at_owner (schema_at w table) table o it → is_up_if store it ≡ true
+      go o None k = refl
+      go None (Some it) k = absurd k
+      go (Some hosted) (Some it) k = ap (is_up_at store) k.owner ∙ up_at up
+
+  up_agenda : (node : TableNode D) (disk : StoreDisk) (agenda : Option (List StoreTask)) → IsTable state node (record { disk = disk; agenda = agenda }) → node.is_up ≡ true → IsUpAt agenda
+  up_agenda node disk None t up = let no : true ≡ false = sym up ∙ t.at.0 in absurd cc
+  up_agenda node disk (Some tasks) t up = (tasks, refl)
+
+  -- it has an agenda
+  pub table_is_up : (hosted : Hosted) → hosted_at w table ≡ Some hosted → is_up_for store table ≡ true → IsUpAt hosted.store.agenda
+  table_is_up hosted at up = go (tree.get nat_cmp store.tables table)
+      (subst (λ (o : Option Hosted). HostedThere state at_owner (schema_at w table) table o (tree.get nat_cmp store.tables table)) at (h.tables.there table)) (up_table state w store h table up)
+    where
+      go : (it : Option (Kept D)) → HostedThere state at_owner (schema_at w table) table (Some hosted) it → IsUpNode it → IsUpAt hosted.store.agenda
+      go None k up = absurd k
+      go (Some it) k up = up_agenda it.node hosted.store.disk hosted.store.agenda k.node up
+
+-- the Store that keeps a table is its owner, and 0 where there is none
+pub owner_is : {D : Type 0} (state : D → DiskState) (w : moves.World) (world : World D) → Holds state w world → (table : ℕ) → owner_at world.store.tables table ≡ owner_of w table
+owner_is {D} state w world h table = go (hosted_at w table) refl (tree.get nat_cmp world.store.tables table) (h.store.tables.there table)
+  where
+    go : (o : Option Hosted) → hosted_at w table ≡ o → (it : Option (Kept D)) → HostedThere state (owner_of w table) (schema_at w table) table o it → store_in it ≡ owner_of w table
+    go (Some hosted) at None k = absurd k
+    go (Some hosted) at (Some it) k = k.owner
+    go None at (Some it) k = absurd k
+    go None at None k = sym (ap (owner_by w.stores) (nothing_at (schema_at w table) (h.numbered.both table ∙ ap is_some at)))
 
 -- ---- a table that takes messages now
 
 module _ {D : Type 0} (state : D → DiskState) (w : moves.World) (world : World D) (h : Holds state w world) (table : ℕ) where
-  pub table_up : is_table_ready w table ≡ true → world.store.is_up ≡ true
-  table_up ready = h.store.up ∙ and_first (not (is_down w the_store)) (is_idle_table (hosted_at w table)) ready
+  abbrev pub owner : Node
+  owner = nodes.Store (owner_of w table)
+
+  pub table_up : is_table_ready w table ≡ true → is_up_for world.store table ≡ true
+  table_up ready = up_there state w world.store table h.store (turned (is_down w owner) (and_first (not (is_down w owner)) (is_idle_table (hosted_at w table)) ready))
 
   pub table_there : is_table_ready w table ≡ true → IsSome (tree.get nat_cmp world.store.tables table)
   table_there ready =
       go (hosted_at w table) (tree.get nat_cmp world.store.tables table) (h.store.tables.there table)
-      (and_second (not (is_down w the_store)) (is_idle_table (hosted_at w table)) ready)
+      (and_second (not (is_down w owner)) (is_idle_table (hosted_at w table)) ready)
     where
-      go : (o : Option Hosted) (it : Option (Kept D)) → HostedThere state (schema_at w table) table o it → is_idle_table o ≡ true → IsSome it
+      go : (o : Option Hosted) (it : Option (Kept D)) → HostedThere state (owner_of w table) (schema_at w table) table o it → is_idle_table o ≡ true → IsSome it
       go None it k e = absurd cc
       go (Some hosted) None k e = absurd k
       go (Some hosted) (Some it) k e = search rules
 
   -- a table that is there, at a Store that is up, is idle where it has no writes to do
-  pub idle_is : world.store.is_up ≡ true → true ≡ is_some (hosted_at w table) → not (is_at_work w table) ≡ is_idle_table (hosted_at w table)
+  pub idle_is : is_up_for world.store table ≡ true → true ≡ is_some (hosted_at w table) → not (is_at_work w table) ≡ is_idle_table (hosted_at w table)
   idle_is up is =
       let x = some_of (hosted_at w table) is in
-      let agenda = h.store.ups (turned world.store.is_up (is_down w the_store) h.store.up up) table x.0 x.1 in
+      let agenda = table_is_up state w world.store table h.store x.0 x.1 up in
       at x.0 x.1 agenda.0 agenda.1
     where
       at : (hosted : Hosted) → hosted_at w table ≡ Some hosted → (tasks : List StoreTask) → hosted.store.agenda ≡ Some tasks → not (is_at_work w table) ≡ is_idle_table (hosted_at w table)
@@ -84,10 +145,10 @@ module _ {D : Type 0} (state : D → DiskState) (w : moves.World) (world : World
   pub not_idle : false ≡ is_some (hosted_at w table) → false ≡ is_idle_table (hosted_at w table)
   not_idle is = sym (ap is_idle_table (none_of (hosted_at w table) is))
 
-  pub down_ready : true ≡ is_down w the_store → false ≡ is_table_ready w table
+  pub down_ready : true ≡ is_down w owner → false ≡ is_table_ready w table
   down_ready is = ap (λ (b : Bool). not b && is_idle_table (hosted_at w table)) is
 
-  pub up_ready : (idle : Bool) → idle ≡ is_idle_table (hosted_at w table) → false ≡ is_down w the_store → idle ≡ is_table_ready w table
+  pub up_ready : (idle : Bool) → idle ≡ is_idle_table (hosted_at w table) → false ≡ is_down w owner → idle ≡ is_table_ready w table
   up_ready idle e is = e ∙ ap (λ (b : Bool). not b && is_idle_table (hosted_at w table)) is
 
 -- ---- a client that takes messages now
@@ -139,25 +200,25 @@ module _ {D : Type 0} (state : D → DiskState) (w : moves.World) (old : World D
         same = still.same;
       }
 
-  fallen_done : (new : World D) (told : Told) → IsMoved state old.store s (store_falls owner w) → HasTold (record old { store = s }) new (facts.Refuses facts.NoDevice) told
-      → IsDone state w (answering facts.Done (failing (store_falls owner w))) told new
+  fallen_done : (new : World D) (told : Told) → IsMoved state old.store s (store_falls (owner_of w table) w) → HasTold (record old { store = s }) new (facts.Refuses facts.NoDevice) told
+      → IsDone state w (answering facts.Done (failing (store_falls (owner_of w table) w))) told new
   fallen_done new told moved t =
-      told_done state w old h (failing (store_falls owner w)) (failing_goes w (store_falls owner w) (store_falls_goes w)) facts.Done s (answers.Refused refusals.NoDevice) (Ok told) new
-      (λ lucks. answering facts.Done (failing (store_falls owner w))) no_lucks refl (record { moved = record { held = moved.held; outs = moved.outs }; answer_is = refl }) t
+      told_done state w old h (failing (store_falls (owner_of w table) w)) (failing_goes w (store_falls (owner_of w table) w) (store_falls_goes (owner_of w table) w)) facts.Done s (answers.Refused refusals.NoDevice) (Ok told) new
+      (λ lucks. answering facts.Done (failing (store_falls (owner_of w table) w))) no_lucks refl (record { moved = record { held = moved.held; outs = moved.outs }; answer_is = refl }) t
 
-  store_fell : (new : World D) (told : Told) → IsMoved state old.store s (store_falls owner w) → RisenFaults state old.store.tables s.tables
-      → HasTold (record old { store = s }) new (facts.Refuses facts.NoDevice) told → HasFallen state w (store_falls owner w) old new told
+  store_fell : (new : World D) (told : Told) → IsMoved state old.store s (store_falls (owner_of w table) w) → RisenFaults state old.store.tables s.tables
+      → HasTold (record old { store = s }) new (facts.Refuses facts.NoDevice) told → HasFallen state w (store_falls (owner_of w table) w) old new told
   store_fell new told moved rose t =
       let done = fallen_done new told moved t in record {
         done = done;
-        rose = (tables_counted state (store_falls owner w).world old new true done.held
+        rose = (tables_counted state (store_falls (owner_of w table) w).world old new true done.held
             (subst (λ (x : StoreHost D). IsCounted state true old.store.tables x.tables) (sym t.store) (some_failed state old.store.tables s.tables true refl rose))
             (ap (λ (x : World D). x.clients.clients) t.same)).rose refl;
       }
 
-  pub row_fallen : (new : World D) (result : Result (Read (Option WholeRow)) WorldFault) → IsMoved state old.store s (store_falls owner w) → RisenFaults state old.store.tables s.tables
+  pub row_fallen : (new : World D) (result : Result (Read (Option WholeRow)) WorldFault) → IsMoved state old.store s (store_falls (owner_of w table) w) → RisenFaults state old.store.tables s.tables
       → IfOk result (TellsFall (HasTold (record old { store = s }) new (facts.Refuses facts.NoDevice)))
-      → IfOk result (HasRead state w (store_falls owner w) (IsRowIn (hosted_at w table) row) old new)
+      → IfOk result (HasRead state w (store_falls (owner_of w table) w) (IsRowIn (hosted_at w table) row) old new)
   row_fallen new (Err e) moved rose t = tt
   row_fallen new (Ok (reads.Found found)) moved rose t = absurd t
   row_fallen new (Ok (reads.Fallen told)) moved rose t = store_fell new told moved rose t

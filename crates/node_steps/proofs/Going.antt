@@ -1,46 +1,48 @@
--- What a Store's moves keep of a world: all but its tables, its packets, and whether it is down.
+-- What a Store's moves keep of a world: all but the tables, the packets, and which Stores are down.
 use Rattle.std.proofs.Common.{◌≡◌, ℕ, zero, suc, Bool, true, false, List, [], ◌∷◌, length, Option, Some, None, refl, ◌∙◌, ap, arith}
-use Rattle.std.specs.Prelude.{if◌then◌else◌, is_some, not, ◌||◌, ◌&&◌, drop}
+use Rattle.std.specs.Prelude.{if◌then◌else◌, is_some, drop}
 use Rattle.std.specs.Ordering.{nat_cmp}
 use Rattle.std.specs.Map.{lookup}
 use Rattle.std.specs.BTreeMap.{is_at, insert_entry}
 use Rattle.std.proofs.lemmas.Bool.Decides.{nat_tests}
+use Rattle.stab_base.specs.declared.node.Node.TheVariants as nodes
+use Rattle.row_value.specs.declared.schema.Schema.{Schema}
 use Rattle.step_tables.specs.Messages.{Luck}
 use Rattle.step_tables.specs.Messages as messages
 use Rattle.step_tables.specs.StoreMoves as store
 use Rattle.step_tables.specs.StoreMoves.{StoreMove, StoreStep}
 use Rattle.step_tables.proofs.Lists.{lookup-insert_nat}
-use Rattle.world_tables.specs.World.{World, Hosted, Moved, owner, the_store, has_node, hosted_at, still, and_then}
+use Rattle.world_tables.specs.World.{World, Hosted, Moved, owner_of, has_node, hosted_at, still, and_then}
 use Rattle.world_tables.specs.World.{and_unless, failing}
 use Rattle.world_tables.specs.World.{history_on, after_table, table_step, move_hosted, move_table, first_luck, other_lucks, tables_of, table_falls, tables_fall, with_down, without_down}
 use Rattle.world_tables.specs.World.{store_falls, or_falls}
 use Rattle.world_tables.specs.World.{busy_table, write_next, store_works, tasks_of, store_until_idle, store_follows, table_follows, is_at_work, declared_late, start_hosted, table_starts}
 use Rattle.world_tables.specs.World.{tables_start, store_starts}
 use Rattle.world_tables.specs.World.{crash_luck, table_crashes, store_crashes}
+use Rattle.store_host.specs.Calls.{restart_moves}
 use Rattle.node_steps.specs.Outs.{Goes}
-use Rattle.node_steps.proofs.NodeSets.{without_has, same_turned}
 
 -- ---- one after the other
 
 pub still_goes : (w : World) → Goes w (still w)
 still_goes w = record {
+  stores = refl;
   schemas = refl;
   clients = refl;
   holds = refl;
   cuts = refl;
   phases = refl;
-  downs = λ node apart. refl;
   tables = λ table. refl;
 }
 
 pub then_goes : (w : World) (m : Moved) (f : World → Moved) → Goes w m → Goes m.world (f m.world) → Goes w (and_then m f)
 then_goes w m f a b = record {
+  stores = b.stores ∙ a.stores;
   schemas = b.schemas ∙ a.schemas;
   clients = b.clients ∙ a.clients;
   holds = b.holds ∙ a.holds;
   cuts = b.cuts ∙ a.cuts;
   phases = b.phases ∙ a.phases;
-  downs = λ node apart. b.downs node apart ∙ a.downs node apart;
   tables = λ table. b.tables table ∙ a.tables table;
 }
 
@@ -53,14 +55,19 @@ unless_goes w m f a b = go m.failed
 
 pub failing_goes : (w : World) (m : Moved) → Goes w m → Goes w (failing m)
 failing_goes w m a = record {
+  stores = a.stores;
   schemas = a.schemas;
   clients = a.clients;
   holds = a.holds;
   cuts = a.cuts;
   phases = a.phases;
-  downs = a.downs;
   tables = a.tables;
 }
+
+-- whoever keeps a table keeps it still
+pub owners_stay : (w : World) (m : Moved) → Goes w m → owner_of m.world ≡ owner_of w
+owners_stay w m g =
+    ap (λ (ss : List ℕ). owner_of (record m.world { stores = ss })) g.stores ∙ ap (λ (ss : List (ℕ × Schema)). owner_of (record w { schemas = ss })) g.schemas
 
 -- ---- one move
 
@@ -70,12 +77,12 @@ some_after tables table old new q at = grind (arith, nat_tests, at, lookup-inser
 
 pub after_goes : (w : World) (table : ℕ) (there hosted : Hosted) (s : StoreStep) → hosted_at w table ≡ Some there → Goes w (after_table w table hosted s)
 after_goes w table there hosted s at = record {
+  stores = refl;
   schemas = refl;
   clients = refl;
   holds = refl;
   cuts = refl;
   phases = refl;
-  downs = λ node apart. refl;
   tables = λ q. some_after w.tables table there new q at;
 }
   where
@@ -91,25 +98,25 @@ table_goes w table move = go (hosted_at w table) refl
 
 -- ---- falls
 
-down_goes : (w : World) → Goes w (still (with_down the_store w))
-down_goes w = record {
+down_goes : (number : ℕ) (w : World) → Goes w (still (with_down (nodes.Store number) w))
+down_goes number w = record {
+  stores = refl;
   schemas = refl;
   clients = refl;
   holds = refl;
   cuts = refl;
   phases = refl;
-  downs = λ node apart. ap (λ (b : Bool). b || has_node w.downs node) apart;
   tables = λ table. refl;
 }
 
-up_goes : (w : World) → Goes w (still (without_down the_store w))
-up_goes w = record {
+up_goes : (number : ℕ) (w : World) → Goes w (still (without_down (nodes.Store number) w))
+up_goes number w = record {
+  stores = refl;
   schemas = refl;
   clients = refl;
   holds = refl;
   cuts = refl;
   phases = refl;
-  downs = λ node apart. without_has w.downs the_store node ∙ ap (λ (b : Bool). not b && has_node w.downs node) (same_turned node the_store apart);
   tables = λ table. refl;
 }
 
@@ -118,52 +125,52 @@ falls_goes [] w = still_goes w
 falls_goes (table ∷ tables) w =
     let m : Moved = table_falls table w in then_goes w m (tables_fall tables) (table_goes w table (store.Crash messages.FailedBefore)) (falls_goes tables m.world)
 
-pub store_falls_goes : (w : World) → Goes w (store_falls owner w)
-store_falls_goes w =
-    let m : Moved = tables_fall (tables_of w owner) w in
-    then_goes w m (λ x. still (with_down the_store x)) (falls_goes (tables_of w owner) w) (down_goes m.world)
+pub store_falls_goes : (number : ℕ) (w : World) → Goes w (store_falls number w)
+store_falls_goes number w =
+    let m : Moved = tables_fall (tables_of w number) w in
+    then_goes w m (λ x. still (with_down (nodes.Store number) x)) (falls_goes (tables_of w number) w) (down_goes number m.world)
 
-or_falls_goes : (w : World) (m : Moved) → Goes w m → Goes w (or_falls owner m)
-or_falls_goes w m a = go m.failed
+or_falls_goes : (number : ℕ) (w : World) (m : Moved) → Goes w m → Goes w (or_falls number m)
+or_falls_goes number w m a = go m.failed
   where
-    go : (b : Bool) → Goes w (if b then and_then m (store_falls owner) else m)
-    go true = then_goes w m (store_falls owner) a (store_falls_goes m.world)
+    go : (b : Bool) → Goes w (if b then and_then m (store_falls number) else m)
+    go true = then_goes w m (store_falls number) a (store_falls_goes number m.world)
     go false = a
 
 -- ---- writes
 
-pub write_goes : (luck : Luck) (o : Option ℕ) (w : World) → Goes w (write_next owner luck o w)
-write_goes luck None w = still_goes w
-write_goes luck (Some table) w = or_falls_goes w (move_table table (store.Work luck) w) (table_goes w table (store.Work luck))
+pub write_goes : (number : ℕ) (luck : Luck) (o : Option ℕ) (w : World) → Goes w (write_next number luck o w)
+write_goes number luck None w = still_goes w
+write_goes number luck (Some table) w = or_falls_goes number w (move_table table (store.Work luck) w) (table_goes w table (store.Work luck))
 
-works_goes : (count : ℕ) (lucks : List Luck) (w : World) → Goes w (store_works owner count lucks w)
-works_goes zero lucks w = still_goes w
-works_goes (suc more) lucks w =
-    let m : Moved = write_next owner (first_luck lucks) (busy_table w owner) w in
-    unless_goes w m (store_works owner more (other_lucks lucks)) (write_goes (first_luck lucks) (busy_table w owner) w) (works_goes more (other_lucks lucks) m.world)
+works_goes : (number count : ℕ) (lucks : List Luck) (w : World) → Goes w (store_works number count lucks w)
+works_goes number zero lucks w = still_goes w
+works_goes number (suc more) lucks w =
+    let m : Moved = write_next number (first_luck lucks) (busy_table w number) w in
+    unless_goes w m (store_works number more (other_lucks lucks)) (write_goes number (first_luck lucks) (busy_table w number) w) (works_goes number more (other_lucks lucks) m.world)
 
-pub until_idle_goes : (lucks : List Luck) (w : World) → Goes w (store_until_idle owner lucks w)
-until_idle_goes lucks w = works_goes (length (tasks_of w owner)) lucks w
+pub until_idle_goes : (number : ℕ) (lucks : List Luck) (w : World) → Goes w (store_until_idle number lucks w)
+until_idle_goes number lucks w = works_goes number (length (tasks_of w number)) lucks w
 
-pub follows_goes : (lucks : List Luck) (w : World) → Goes w (store_follows owner lucks w)
-follows_goes lucks w = go (has_node w.holds the_store)
+pub follows_goes : (number : ℕ) (lucks : List Luck) (w : World) → Goes w (store_follows number lucks w)
+follows_goes number lucks w = go (has_node w.holds (nodes.Store number))
   where
-    go : (b : Bool) → Goes w (if b then still w else store_until_idle owner lucks w)
+    go : (b : Bool) → Goes w (if b then still w else store_until_idle number lucks w)
     go true = still_goes w
-    go false = until_idle_goes lucks w
+    go false = until_idle_goes number lucks w
 
 pub table_follows_goes : (table : ℕ) (lucks : List Luck) (w : World) → Goes w (table_follows table lucks w)
 table_follows_goes table lucks w = go (is_at_work w table)
   where
-    go : (b : Bool) → Goes w (if b then store_follows owner lucks w else still w)
-    go true = follows_goes lucks w
+    go : (b : Bool) → Goes w (if b then store_follows (owner_of w table) lucks w else still w)
+    go true = follows_goes (owner_of w table) lucks w
     go false = still_goes w
 
 -- ---- a crash and a start
 
-pub crashes_goes : (calls : ℕ) (lucks : List Luck) (w : World) → Goes w (store_crashes owner calls lucks w)
-crashes_goes calls lucks w =
-    let m : Moved = table_crashes luck (busy_table w owner) w in then_goes w m (store_falls owner) (one (busy_table w owner)) (store_falls_goes m.world)
+pub crashes_goes : (number calls : ℕ) (lucks : List Luck) (w : World) → Goes w (store_crashes number calls lucks w)
+crashes_goes number calls lucks w =
+    let m : Moved = table_crashes luck (busy_table w number) w in then_goes w m (store_falls number) (one (busy_table w number)) (store_falls_goes number m.world)
   where
     luck : Luck
     luck = crash_luck calls (other_lucks lucks) (first_luck lucks)
@@ -176,9 +183,9 @@ start_goes : (w : World) (table : ℕ) → Goes w (start_hosted w table (hosted_
 start_goes w table = go (hosted_at w table) refl
   where
     made : (hosted : Hosted) (b : Bool) → hosted_at w table ≡ Some hosted
-        → Goes w (if b then move_table table store.Start w else after_table w table (record hosted { made = true }) (declared_late table))
+        → Goes w (if b then move_table table store.Start w else after_table w table (record hosted { made = true }) (declared_late (owner_of w table) table))
     made hosted true at = table_goes w table store.Start
-    made hosted false at = after_goes w table hosted (record hosted { made = true }) (declared_late table) at
+    made hosted false at = after_goes w table hosted (record hosted { made = true }) (declared_late (owner_of w table) table) at
 
     go : (o : Option Hosted) → hosted_at w table ≡ o → Goes w (start_hosted w table o)
     go None at = still_goes w
@@ -195,29 +202,26 @@ tables_start_goes (table ∷ tables) lucks w =
     let m : Moved = table_starts table (first_luck lucks) w in
     unless_goes w m (tables_start tables (other_lucks lucks)) (table_starts_goes table (first_luck lucks) w) (tables_start_goes tables (other_lucks lucks) m.world)
 
-pub starts_goes : (lucks : List Luck) (w : World) → Goes w (store_starts owner lucks w)
-starts_goes lucks w = go m.failed
+pub restart_goes : (tables : List ℕ) (lucks : List Luck) (w : World) → Goes w (restart_moves tables lucks w)
+restart_goes tables lucks w = let m : Moved = tables_fall tables w in then_goes w m (tables_start tables lucks) (falls_goes tables w) (tables_start_goes tables lucks m.world)
+
+pub starts_goes : (number : ℕ) (lucks : List Luck) (w : World) → Goes w (store_starts number lucks w)
+starts_goes number lucks w = go m.failed
   where
     tables : List ℕ
-    tables = tables_of w owner
+    tables = tables_of w number
 
     m : Moved
-    m = tables_start tables lucks w
+    m = restart_moves tables lucks w
 
-    started : Goes w m
-    started = tables_start_goes tables lucks w
+    goes : Goes w m
+    goes = restart_goes tables lucks w
 
-    go : (b : Bool) → Goes w (if b then and_then m (tables_fall tables) else and_then m (λ x. store_follows owner (drop (length tables) lucks) (without_down the_store x)))
-    go true = then_goes w m (tables_fall tables) started (falls_goes tables m.world)
+    up : World
+    up = without_down (nodes.Store number) m.world
+
+    go : (b : Bool) → Goes w (if b then and_then m (store_falls number) else and_then m (λ x. store_follows number (drop (length tables) lucks) (without_down (nodes.Store number) x)))
+    go true = then_goes w m (store_falls number) goes (store_falls_goes number m.world)
     go false =
-        let up = up_goes m.world in
-        let b = follows_goes (drop (length tables) lucks) (without_down the_store m.world) in
-        then_goes w m (λ x. store_follows owner (drop (length tables) lucks) (without_down the_store x)) started (record {
-          schemas = b.schemas;
-          clients = b.clients;
-          holds = b.holds;
-          cuts = b.cuts;
-          phases = b.phases;
-          downs = λ node apart. b.downs node apart ∙ up.downs node apart;
-          tables = b.tables;
-        })
+        then_goes w m (λ x. store_follows number (drop (length tables) lucks) (without_down (nodes.Store number) x)) goes
+        (then_goes m.world (still up) (store_follows number (drop (length tables) lucks)) (up_goes number m.world) (follows_goes number (drop (length tables) lucks) up))

@@ -1,13 +1,9 @@
 -- What a client's event keeps of a world: all but the clients, the packets, which links are down, and which phases are
 -- open.
-use Rattle.std.proofs.Common.{◌≡◌, ℕ, ◌+◌, Bool, true, false, List, [], ◌∷◌, drop, Option, Some, None, refl, sym, ◌∙◌, ap, arith}
+use Rattle.std.proofs.Common.{◌≡◌, ℕ, Bool, true, false, List, [], ◌∷◌, Option, Some, None, refl, sym, ◌∙◌, ap}
 use Rattle.std.specs.Prelude.{if◌then◌else◌, is_some, ◌&&◌, map}
-use Rattle.std.specs.Ordering.{nat_cmp}
-use Rattle.std.specs.Map.{lookup}
-use Rattle.std.specs.BTreeMap.{is_at, insert_entry}
-use Rattle.std.proofs.lemmas.Bool.Decides.{nat_tests}
 use Rattle.stab_base.specs.declared.node.Node.TheVariants as nodes
-use Rattle.step_tables.specs.ClientMoves.{Client, ClientDisk, ClientTask, ClientMove, ClientStep, Shape, Resolve, ResolveAll, Work, Start, Crash, Take, no_shape, client_step, is_cut_off, kept_out}
+use Rattle.step_tables.specs.ClientMoves.{Client, ClientDisk, ClientTask, ClientMove, Shape, ResolveAll, Work, Start, Crash, Take, no_shape, client_step, is_cut_off, kept_out}
 use Rattle.conflicts.specs.declared.stored.Stored.{Stored}
 use Rattle.table_model.specs.declared.event.Event.TheVariants as events
 use Rattle.table_model.specs.declared.line.RowPair.{RowPair}
@@ -15,61 +11,14 @@ use Rattle.step_tables.specs.Facts.{PairLine}
 use Rattle.step_tables.specs.Facts as facts
 use Rattle.step_tables.specs.Messages.{Luck, Message}
 use Rattle.step_tables.specs.Messages as messages
-use Rattle.step_tables.proofs.Lists.{lookup-insert_nat}
 use Rattle.world_tables.specs.World.{World, WorldStep, Moved, client_at, is_down, is_cut, has_node, still, and_then, failing, answering, answered, refused, unless_down, reads, unless_kept, unless_cut, is_resolving}
-use Rattle.world_tables.specs.World.{move_client, move_there, client_works, client_tasks, client_until_idle, client_follows, client_follows_from, gets_tasks, client_writes, client_falls, client_crashes, client_starts}
+use Rattle.world_tables.specs.World.{move_client, move_there, client_tasks, client_until_idle, client_follows, client_follows_from, gets_tasks, client_writes, client_falls, client_crashes, client_starts}
 use Rattle.world_tables.specs.World.{starts_by, listed, first_luck, other_lucks, crash_luck, next_write, calls, call, call_there, to_there, worked, all_worked, crashed, started, linked, with_link}
-use Rattle.world_tables.specs.World.{Lucks, and_unless, chosen_of, client_pairs, first_shape, other_shapes, plan_size, resolve_all, resolve_by, resolve_each, step}
+use Rattle.world_tables.specs.World.{Lucks, client_pairs, resolve_all, resolve_each, step}
+use Rattle.journal_host.proofs.Keeping.{SameClients, changed, KeepsMoved, still_keeps, failing_keeps, then_keeps, move_keeps, until_idle_keeps}
+use Rattle.client_events.proofs.Rows.{each_keeps}
 
 -- ---- moves
-
--- the same clients are there
-abbrev pub SameClients : World → World → Type 0
-SameClients w after = (q : ℕ) → is_some (client_at after q) ≡ is_some (client_at w q)
-
--- the world with the clients, the packets, the links and the phases of another
-abbrev pub changed : World → World → World
-changed w after = record w { clients = after.clients; packets = after.packets; cuts = after.cuts; phases = after.phases }
-
-pub record KeepsMoved (w : World) (m : Moved) : Type 0 where
-  pub same : m.world ≡ changed w m.world
-  pub clients : SameClients w m.world
-
-pub still_keeps : (w : World) → KeepsMoved w (still w)
-still_keeps w = record { same = refl; clients = λ q. refl }
-
-pub failing_keeps : (w : World) (m : Moved) → KeepsMoved w m → KeepsMoved w (failing m)
-failing_keeps w m a = record { same = a.same; clients = a.clients }
-
-pub then_keeps : (w : World) (m : Moved) (f : World → Moved) → KeepsMoved w m → KeepsMoved m.world (f m.world) → KeepsMoved w (and_then m f)
-then_keeps w m f a b = record {
-  same = b.same ∙ ap (λ (x : World). changed x (f m.world).world) a.same;
-  clients = λ q. b.clients q ∙ a.clients q;
-}
-
-some_behind : {V : Type 0} (es : List (ℕ × V)) (k : ℕ) (old new : V) (q : ℕ) → lookup (is_at (nat_cmp k)) es ≡ Some old
-    → is_some (lookup (is_at (nat_cmp q)) (insert_entry nat_cmp es k new)) ≡ is_some (lookup (is_at (nat_cmp q)) es)
-some_behind es k old new q at = grind (arith, nat_tests, at, lookup-insert_nat es k new q)
-
-pub move_keeps : (w : World) (c : ℕ) (move : ClientMove) (shape : Shape) → KeepsMoved w (move_client c move shape w)
-move_keeps w c move shape = go (client_at w c) refl
-  where
-    go : (o : Option Client) → client_at w c ≡ o → KeepsMoved w (move_there w c move shape o)
-    go None at = still_keeps w
-    go (Some node) at =
-        let s : ClientStep = client_step c shape node move in record {
-          same = refl;
-          clients = λ q. some_behind w.clients c node s.client q at;
-        }
-
-works_keeps : (c : ℕ) (tasks : List ClientTask) (lucks : List Luck) (w : World) → KeepsMoved w (client_works c tasks lucks w)
-works_keeps c [] lucks w = still_keeps w
-works_keeps c (task ∷ tasks) lucks w =
-    let m : Moved = move_client c (Work (first_luck lucks)) no_shape w in
-    then_keeps w m (client_works c tasks (other_lucks lucks)) (move_keeps w c (Work (first_luck lucks)) no_shape) (works_keeps c tasks (other_lucks lucks) m.world)
-
-until_idle_keeps : (c : ℕ) (lucks : List Luck) (w : World) → KeepsMoved w (client_until_idle c lucks w)
-until_idle_keeps c lucks w = works_keeps c (client_tasks (client_at w c)) lucks w
 
 follows_keeps : (c : ℕ) (lucks : List Luck) (w : World) → KeepsMoved w (client_follows c lucks w)
 follows_keeps c lucks w = go (has_node w.holds (nodes.Client c))
@@ -214,28 +163,6 @@ listed_keeps w s pairs k counted = let same = listed_as s s.answer refl in recor
 
 -- ---- all conflicts of a table
 
-unless_then_keeps : (w : World) (m : Moved) (f : World → Moved) → KeepsMoved w m → KeepsMoved m.world (f m.world) → KeepsMoved w (and_unless m f)
-unless_then_keeps w m f a b = go m.failed
-  where
-    go : (failed : Bool) → KeepsMoved w (if failed then m else and_then m f)
-    go true = a
-    go false = then_keeps w m f a b
-
-resolve_by_keeps : (c table : ℕ) (way : Stored) (shape : Shape) (pair : RowPair) (luck : Luck) (w : World) → KeepsMoved w (resolve_by c table way shape pair luck w)
-resolve_by_keeps c table way shape pair messages.Done w = move_keeps w c (Resolve table pair.row pair.version (chosen_of way pair.row (client_at w c) table)) shape
-resolve_by_keeps c table way shape pair messages.FailedBefore w = failing_keeps w (client_falls c w) (move_keeps w c (Crash messages.FailedBefore) no_shape)
-resolve_by_keeps c table way shape pair messages.FailedAfter w = failing_keeps w (client_falls c w) (move_keeps w c (Crash messages.FailedBefore) no_shape)
-
-resolve_each_keeps : (c table : ℕ) (way : Stored) (shapes : List Shape) (lucks : List Luck) (pairs : List RowPair) (w : World) → KeepsMoved w (resolve_each c table way shapes lucks pairs w)
-resolve_each_keeps c table way shapes lucks [] w = still_keeps w
-resolve_each_keeps c table way shapes lucks (pair ∷ pairs) w =
-    let first : Moved = resolve_by c table way (first_shape shapes) pair (first_luck lucks) w in
-    let all : Moved = and_unless first (client_until_idle c (other_lucks lucks)) in
-    let more : List Luck = drop (1 + plan_size c first.world) lucks in
-    unless_then_keeps w all (resolve_each c table way (other_shapes shapes) more pairs)
-    (unless_then_keeps w first (client_until_idle c (other_lucks lucks)) (resolve_by_keeps c table way (first_shape shapes) pair (first_luck lucks) w) (until_idle_keeps c (other_lucks lucks) first.world))
-    (resolve_each_keeps c table way (other_shapes shapes) more pairs all.world)
-
 pub resolve_all_keeps : (w : World) (c table : ℕ) (way : Stored) (lucks : Lucks) → Keeps w (step w (events.ResolveAll c table way) lucks)
 resolve_all_keeps w c table way lucks = go s.answer refl
   where
@@ -253,7 +180,7 @@ resolve_all_keeps w c table way lucks = go s.answer refl
     go (Some facts.Done) is = rw is k
     go (Some (facts.Number number)) is = rw is
         (answering_keeps w (facts.Number number) (resolve_each c table way lucks.shapes more (client_pairs (client_at w c) table) w)
-        (resolve_each_keeps c table way lucks.shapes more (client_pairs (client_at w c) table) w))
+        (each_keeps c table way lucks.shapes more (client_pairs (client_at w c) table) w))
     go (Some (facts.Shows what)) is = rw is k
     go (Some (facts.Sums sum)) is = rw is k
     go (Some (facts.Stores version content)) is = rw is k

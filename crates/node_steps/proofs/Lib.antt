@@ -1,8 +1,9 @@
 pub mod NodeSets
-pub mod Others
+pub mod Staying
 pub mod Going
 pub mod Moved
 pub mod Done
+pub mod Holding
 pub mod Declared
 pub mod Keeping
 pub mod Clients
@@ -10,10 +11,10 @@ pub mod Taken
 pub mod Showing
 pub mod Found
 pub mod Stepping
-pub mod Starting
 pub mod AsCalls
 pub mod Sums
 pub mod Counted
 pub mod Closing
 pub mod Rows
+pub mod Starting
 pub mod Returned

@@ -20,7 +20,7 @@ use Rattle.device_laws.specs.Stands.{HasRows}
 use Rattle.store_node.proofs.Working.{node_rows}
 use Rattle.world_tables.specs.Passed.{IsBetween}
 use Rattle.step_tables.specs.ClientMoves.{Client}
-use Rattle.world_tables.specs.World.{no_lucks, Hosted, schema_at, hosted_at, client_at, is_cut}
+use Rattle.world_tables.specs.World.{no_lucks, Hosted, owner_of, schema_at, hosted_at, client_at, is_cut}
 use Rattle.world_tables.specs.World as moves
 use Rattle.moment_laws.proofs.Stays.{rows_stay_before}
 use Rattle.store_host.specs.declared.hosted.Hosted.{Hosted as Kept}
@@ -89,7 +89,7 @@ module _ {D : Type 0} (state : D → DiskState) (images : D → ℕ → List ℕ
       → StandsForOne (λ list. HasRowsNear schema hosted.history (data_of list)) image
   stands_near table hosted at schema image s = (s.0, s.1, rows_near table hosted at schema (data_of s.0) (⊎_elim (λ x. x) (λ x. x) s.2))
 
-  rows_back : (disks : ℕ → Option D) (table : ℕ) (hosted : Hosted) → hosted_at w table ≡ Some hosted → hosted.made ≡ true → (it : Kept D) → IsHosted state (schema_at w table) table hosted it
+  rows_back : (disks : ℕ → Option D) (table : ℕ) (hosted : Hosted) → hosted_at w table ≡ Some hosted → hosted.made ≡ true → (it : Kept D) → IsHosted state (owner_of w table) (schema_at w table) table hosted it
       → AreBack disks table it → IsRowsBack state disks w table hosted.history
   rows_back disks table hosted at made it k b =
       let disk = inner_of (disk_of (rows.vault_of it.node.devs.rows)) in
@@ -106,8 +106,8 @@ module _ {D : Type 0} (state : D → DiskState) (images : D → ℕ → List ℕ
     pub all_rows_back : (told : Option (ℕ → Option D)) → IfSome told (AreTablesBack world.store.tables) → IfSome told (λ disks. AreRowsBack state disks w)
     all_rows_back None k = tt
     all_rows_back (Some disks) k = λ table hosted at made.
-        let m = between state images (schema_at w table) table hosted (tree.get nat_cmp world.store.tables table)
-        (subst (λ (o : Option Hosted). HostedThere state (schema_at w table) table o (tree.get nat_cmp world.store.tables table)) at (h.store.tables.there table)) in
+        let m = between state images (owner_of w table) (schema_at w table) table hosted (tree.get nat_cmp world.store.tables table)
+        (subst (λ (o : Option Hosted). HostedThere state (owner_of w table) (schema_at w table) table o (tree.get nat_cmp world.store.tables table)) at (h.store.tables.there table)) in
         rows_back disks table hosted at made m.0 m.2 (k table m.0 m.1)
 
 -- ---- tables and clients of a world
@@ -117,7 +117,7 @@ module _ {D : Type 0} (state : D → DiskState) (w : moves.World) (numbered : Ar
     tables_same : (table : ℕ) → is_some (hosted_at w table) ≡ is_some (tree.get nat_cmp store.tables table)
     tables_same table = go (hosted_at w table) (tree.get nat_cmp store.tables table) (h.tables.there table)
       where
-        go : (o : Option Hosted) (it : Option (Kept D)) → HostedThere state (schema_at w table) table o it → is_some o ≡ is_some it
+        go : (o : Option Hosted) (it : Option (Kept D)) → HostedThere state (owner_of w table) (schema_at w table) table o it → is_some o ≡ is_some it
         go None None k = refl
         go None (Some it) k = absurd k
         go (Some hosted) None k = absurd k
@@ -207,7 +207,7 @@ module _ {D : Type 0} (state : D → DiskState) (w : moves.World) (world : World
   told_at : (disks : ℕ → Option D) → AreTablesBack world.store.tables disks → (table : ℕ) → faults_back state disks w table ≡ faults_at state world.store.tables table
   told_at disks back table = go (hosted_at w table) (tree.get nat_cmp world.store.tables table) refl (h.store.tables.there table)
     where
-      go : (o : Option Hosted) (it : Option (Kept D)) → tree.get nat_cmp world.store.tables table ≡ it → HostedThere state (schema_at w table) table o it
+      go : (o : Option Hosted) (it : Option (Kept D)) → tree.get nat_cmp world.store.tables table ≡ it → HostedThere state (owner_of w table) (schema_at w table) table o it
           → (if is_some o then faults_told state disks table else 0) ≡ faults_in state it
       go None None e k = refl
       go None (Some it) e k = absurd k

@@ -9,6 +9,7 @@ use Rattle.disk_trait.specs.Image.{IsImage}
 use Rattle.disk_trait.specs.Calls.{DiskState}
 use Rattle.disk_trait.specs.Fuse.{behind, inner_of}
 use Rattle.disk_trait.specs.declared.fuse.FuseDisk.{FuseDisk}
+use Rattle.stab_base.specs.declared.node.Node.TheVariants as nodes
 use Rattle.row_value.specs.declared.schema.Schema.{Schema}
 use Rattle.row_store.specs.Data.{TableData}
 use Rattle.store_commit.proofs.Moments.{rows_weaker, rows_then}
@@ -18,13 +19,14 @@ use Rattle.step_tables.specs.Facts as facts
 use Rattle.step_tables.specs.Messages.{Luck}
 use Rattle.step_tables.specs.StoreMoves.{StoreDisk, TableStore}
 use Rattle.device_laws.specs.Stands.{HasRows}
-use Rattle.world_tables.specs.Passed.{after_tasks, items_behind, first_part}
+use Rattle.world_tables.specs.Passed.{after_tasks, items_behind, first_part, started_at}
 use Rattle.world_tables.specs.Turns.{world_from}
-use Rattle.world_tables.specs.World.{Lucks, Packet, Hosted, Moved, WorldStep, schema_at, hosted_at, tasks_in, start, step, owner, tables_of, tables_start, store_starts}
+use Rattle.world_tables.specs.World.{Lucks, Hosted, Moved, WorldStep, schema_at, hosted_at, tasks_in, start, step, owner_of, tables_of, store_starts}
 use Rattle.world_tables.specs.World as moves
 use Rattle.moment_laws.proofs.Stays.{rows_stay_before, rows_stay_between}
 use Rattle.store_host.specs.declared.hosted.Hosted.{Hosted as Kept}
 use Rattle.store_host.specs.declared.host.StoreHost.{StoreHost}
+use Rattle.store_host.specs.Calls.{restart_moves}
 use Rattle.store_host.specs.Holds.{HostedThere, HoldsTables, HoldsStore, AreLeft}
 use Rattle.store_host.proofs.Maps.{found}
 use Rattle.store_host.proofs.Froms.{IsFrom}
@@ -48,13 +50,13 @@ only_items schema held disk h = record { table = h.table; numbered = h.numbered;
 -- ---- tables behind a call of the world
 
 module _ {D : Type 0} (P : tree.BTreeMap ℕ (Kept D) → Type 0) where
-  -- what the Store told and sent was taken from it
+  -- what the Stores told and sent was taken from them
   pub told_tables : (result : Result Told WorldFault) (a : facts.Answer) (old new : World D) (s : StoreHost D) → P s.tables
       → IfOk result (λ told. HasTold (record old { store = s }) new a told) → IfOk result (λ told. P new.store.tables)
   told_tables (Err e) a old new s p t = tt
   told_tables (Ok told) a old new s p t = subst (λ (x : StoreHost D). P x.tables) (sym t.store) p
 
-  -- the Store is the same
+  -- the Stores are the same
   pub same_tables : (result : Result Told WorldFault) (old new : World D) → P old.store.tables → IfOk result (λ told. new.store ≡ old.store)
       → IfOk result (λ told. P new.store.tables)
   same_tables (Err e) old new p same = tt
@@ -73,11 +75,11 @@ module _ {D : Type 0} (state : D → DiskState) (images : D → ℕ → List ℕ
 
   -- ---- from call to call
 
-  -- a Store that does nothing
+  -- Stores that do nothing
   pub none_left : ((disk : D) (image : List ℕ) → images disk (state disk).moment image → IsImage (state disk).pending image) → (w : moves.World) (store : StoreHost D) → HoldsStore state w store
       → AreLeft state images w store.tables store.tables
   none_left only_now w store h =
-      still_left state images w store.tables store.tables (none_still state images (λ d image left. only_now (inner_of d) image left) w store.numbers store.tables h.tables)
+      still_left state images w store.tables store.tables (none_still state images (λ d image left. only_now (inner_of d) image left) w store.tables h.tables)
 
   pub over_first : (w v : moves.World) (old new : tree.BTreeMap ℕ (Kept D)) → AreLeft state images w old new → AreLeftOver state images w v old new
   over_first w v old new k = record {
@@ -92,17 +94,17 @@ module _ {D : Type 0} (state : D → DiskState) (images : D → ℕ → List ℕ
   over_first_ok (Ok x) w v old new k = over_first w v old new k
 
   -- one call, and then another in the world that the first leads to
-  module _ (Q : TableStore → TableStore → Type 0) (w v u : moves.World) (numbers all : List ℕ) (old mid : tree.BTreeMap ℕ (Kept D)) (h : HoldsTables state w numbers old)
-      (k : HoldsTables state v all mid) (from : IsFrom Q w v) (same : (table : ℕ) (hosted : Hosted) → hosted_at v table ≡ Some hosted → hosted_at u table ≡ Some hosted) where
+  module _ (Q : TableStore → TableStore → Type 0) (w v u : moves.World) (old mid : tree.BTreeMap ℕ (Kept D)) (h : HoldsTables state w old)
+      (k : HoldsTables state v mid) (from : IsFrom Q w v) (same : (table : ℕ) (hosted : Hosted) → hosted_at v table ≡ Some hosted → hosted_at u table ≡ Some hosted) where
     pub over_then : (new : tree.BTreeMap ℕ (Kept D)) → AreLeft state images w old mid → AreLeft state images v mid new → AreLeftOver state images w u old new
     over_then new first second = record {
       rows = λ table hosted before after at made was is.
           let f = from.there table hosted at made in
           let later = f.0 in
-          let m = between state images (schema_at v table) table later (tree.get nat_cmp mid table)
-          (subst (λ (o : Option Hosted). HostedThere state (schema_at v table) table o (tree.get nat_cmp mid table)) f.1 (k.there table)) in
+          let m = between state images (owner_of v table) (schema_at v table) table later (tree.get nat_cmp mid table)
+          (subst (λ (o : Option Hosted). HostedThere state (owner_of v table) (schema_at v table) table o (tree.get nat_cmp mid table)) f.1 (k.there table)) in
           let it = m.0 in
-          let b = found state w numbers old table before h (sym was) in
+          let b = found state w old table before h (sym was) in
           let schemas : Some before.node.schema ≡ Some it.node.schema = sym b.2.schema ∙ (ap (λ (ss : List (ℕ × Schema)). lookup (is_at (nat_cmp table)) ss) (sym from.schemas) ∙ m.2.schema) in
           let schema : it.node.schema ≡ before.node.schema = sym (some_same before.node.schema it.node.schema schemas) in
           rows_then st im before.node.devs it.node.devs after.node.devs (HasSome hosted before.node.schema) (HasSome later it.node.schema)
@@ -161,7 +163,7 @@ module _ {D : Type 0} (state : D → DiskState) (images : D → ℕ → List ℕ
         go (Err e) k = tt
         go (Ok told) k = λ lucks. stay_over w r event lucks old new (over_first w (first_part w event lucks) old.store.tables new.store.tables k)
 
-    -- the Store does nothing
+    -- the Stores do nothing
     pub stay_still : ((disk : D) (image : List ℕ) → images disk (state disk).moment image → IsImage (state disk).pending image) → Holds state w old → IfOk result (λ told. new.store ≡ old.store)
         → IfOk result (λ told. Stays w event old new)
     stay_still only_now h same = stay_left (same_tables (AreLeft state images w old.store.tables) result old new (none_left only_now w old.store h.store) same)
@@ -169,13 +171,13 @@ module _ {D : Type 0} (state : D → DiskState) (images : D → ℕ → List ℕ
   -- ---- starts
 
   -- moves that are a start's, with what is left behind its first part
-  pub start_left : (w : moves.World) (old new : StoreHost D) (m : Moved) (result : Result Answer WorldFault)
-      → IfOk result (λ given. (all : List Luck) × IsAnswered state old new facts.Done (store_starts owner all w) given × (tables_start (tables_of w owner) all w ≡ m))
+  pub start_left : (number : ℕ) (w : moves.World) (old new : StoreHost D) (m : Moved) (result : Result Answer WorldFault)
+      → IfOk result (λ given. (all : List Luck) × IsAnswered state old new facts.Done (store_starts number all w) given × (restart_moves (tables_of w number) all w ≡ m))
       → IfOk result (λ given. AreLeftOver state images w m.world old.tables new.tables)
-      → IfOk result (λ given. (all : List Luck) × IsAnswered state old new facts.Done (store_starts owner all w) given
-      × AreLeftOver state images w (tables_start (tables_of w owner) all w).world old.tables new.tables)
-  start_left w old new m (Err e) k left = tt
-  start_left w old new m (Ok given) k left = (k.0, k.1, subst (λ (x : Moved). AreLeftOver state images w x.world old.tables new.tables) (sym k.2) left)
+      → IfOk result (λ given. (all : List Luck) × IsAnswered state old new facts.Done (store_starts number all w) given
+      × AreLeftOver state images w (started_at w all (nodes.Store number)) old.tables new.tables)
+  start_left number w old new m (Err e) k left = tt
+  start_left number w old new m (Ok given) k left = (k.0, k.1, subst (λ (x : Moved). AreLeftOver state images w x.world old.tables new.tables) (sym k.2) left)
 
   -- as a step that is told, where the first part of the step is this world
   pub comes_left : (w : moves.World) (f : Lucks → WorldStep) (first : Lucks → moves.World) (result : Result Told WorldFault) (old new : World D) (lucks : Lucks)

@@ -1,7 +1,8 @@
--- What the Store shows of its tables.
-use Rattle.std.proofs.Common.{◌≡◌, ℕ, true, false, List, [], ◌∷◌, length, Option, Some, None, Result, Ok, Err, refl, ◌∙◌, ap, rules}
-use Rattle.std.specs.Prelude.{IfOk, IsSome, is_some, option_map}
+-- What is shown of the tables.
+use Rattle.std.proofs.Common.{◌≡◌, ℕ, Bool, true, false, List, [], ◌∷◌, length, Option, Some, None, Result, Ok, Err, refl, sym, ◌∙◌, ap, subst, rules}
+use Rattle.std.specs.Prelude.{IfOk, IsSome, is_some, option_map, ◌==◌, if◌then◌else◌}
 use Rattle.std.specs.Ordering.{nat_cmp}
+use Rattle.std.proofs.lemmas.Bool.{eqb-true, eq-eqb}
 use Rattle.std.specs.BTreeMap as tree
 use Rattle.disk_trait.specs.Calls.{DiskState}
 use Rattle.table_model.specs.declared.entry.Entry.{Entry}
@@ -12,9 +13,8 @@ use Rattle.step_tables.specs.Messages as messages
 use Rattle.step_tables.specs.Store.{current_of}
 use Rattle.store_host.specs.declared.host.StoreHost.{StoreHost}
 use Rattle.store_host.specs.declared.hosted.Hosted.{Hosted as Kept}
-use Rattle.store_host.specs.Holds.{HoldsStore, HostedThere, outs_of}
-use Rattle.store_node.specs.declared.node.StoreOut.{StoreOut}
-use Rattle.world_tables.specs.World.{Lucks, no_lucks, WorldStep, Hosted, hosted_at, schema_at, refused, answering, entry_lines, history_lines, row_read, row_shown, first_luck, still, failing, store_falls, owner}
+use Rattle.store_host.specs.Holds.{HoldsStore, HoldsTables, HostedThere, store_in, owner_at, is_up_at, is_up_if, is_up_for}
+use Rattle.world_tables.specs.World.{Lucks, no_lucks, WorldStep, Hosted, hosted_at, hosted_by, schema_at, refused, answering, entry_lines, history_lines, row_read, row_shown, store_falls, owner_of}
 use Rattle.world_tables.specs.World as moves
 use Rattle.node_steps.specs.declared.fault.WorldFault.{WorldFault}
 use Rattle.node_steps.specs.declared.told.Told.{Told}
@@ -42,17 +42,39 @@ pub there_at : {D : Type 0} (state : D → DiskState) (w : moves.World) (store :
     → (hosted : Hosted) × (hosted_at w table ≡ Some hosted)
 there_at {D} state w store table h there = go (hosted_at w table) refl (tree.get nat_cmp store.tables table) there (h.tables.there table)
   where
-    go : (o : Option Hosted) → hosted_at w table ≡ o → (it : Option (Kept D)) → IsSome it → HostedThere state (schema_at w table) table o it → (hosted : Hosted) × (hosted_at w table ≡ Some hosted)
+    go : (o : Option Hosted) → hosted_at w table ≡ o → (it : Option (Kept D)) → IsSome it → HostedThere state (owner_of w table) (schema_at w table) table o it → (hosted : Hosted) × (hosted_at w table ≡ Some hosted)
     go (Some hosted) at it there k = (hosted, at)
     go None at None there k = absurd cc
     go None at (Some it) there k = absurd k
 
-pub no_outs : {D : Type 0} (store : StoreHost D) → outs_of store ≡ [] → store.outs ≡ []
-no_outs store e = go store.outs e
+-- a table whose owner is up, as one that is there
+pub up_for : {D : Type 0} (store : StoreHost D) (table : ℕ) → is_up_at store (owner_at store.tables table) ≡ true → is_up_for store table ≡ true
+up_for {D} store table up = go (tree.get nat_cmp store.tables table) up
   where
-    go : (outs : List StoreOut) → outs_of (record store { outs = outs }) ≡ [] → outs ≡ []
-    go [] e = refl
-    go (out ∷ outs) e = absurd cc
+    go : (it : Option (Kept D)) → is_up_at store (store_in it) ≡ true → is_up_if store it ≡ true
+    go None up = refl
+    go (Some it) up = up
+
+-- the Store that keeps a table is its owner
+pub table_owner : {D : Type 0} (state : D → DiskState) (w : moves.World) (tables : tree.BTreeMap ℕ (Kept D)) (table : ℕ) (hosted : Hosted) → HoldsTables state w tables → hosted_at w table ≡ Some hosted
+    → (number : ℕ) → owner_at tables table ≡ number → owner_of w table ≡ number
+table_owner {D} state w tables table hosted h at number is =
+    go (tree.get nat_cmp tables table) (subst (λ (o : Option Hosted). HostedThere state (owner_of w table) (schema_at w table) table o (tree.get nat_cmp tables table)) at (h.there table)) is
+  where
+    go : (it : Option (Kept D)) → HostedThere state (owner_of w table) (schema_at w table) table (Some hosted) it → store_in it ≡ number → owner_of w table ≡ number
+    go None k is = absurd k
+    go (Some it) k is = sym k.owner ∙ is
+
+-- a Store that keeps the table, and one that doesn't
+pub kept_here : (w : moves.World) (number table : ℕ) → owner_of w table ≡ number → hosted_by w number table ≡ hosted_at w table
+kept_here w number table is = ap (λ (b : Bool). if b then hosted_at w table else None) (eq-eqb (owner_of w table) number is)
+
+pub not_here : (w : moves.World) (number table : ℕ) → (owner_of w table ≡ number → ⊥) → (owner_of w table == number) ≡ false
+not_here w number table isnt = go (owner_of w table == number) refl
+  where
+    go : (b : Bool) → (owner_of w table == number) ≡ b → b ≡ false
+    go true is = absurd (isnt (eqb-true (owner_of w table) number is))
+    go false is = refl
 
 -- ---- a table that is there, and one that isn't
 
@@ -86,7 +108,7 @@ module _ {D : Type 0} (state : D → DiskState) (w : moves.World) where
               no_lucks,
               record {
                 lines_are = k.lines_are ∙ ap (λ (es : List Entry). AnswerLine (facts.Number (length es)) ∷ entry_lines table es) same;
-                outs_are = no_outs_told told.outs k.none;
+                outs_are = no_outs_told (owner_of w) told.outs k.none;
                 held = h;
                 tables = λ q. refl;
                 clients = λ c. refl;
@@ -103,12 +125,13 @@ module _ {D : Type 0} (state : D → DiskState) (w : moves.World) where
 
 -- ---- a look at a row
 
-pub read_goes : (w : moves.World) (luck : Luck) → Goes w (read_moves w luck)
-read_goes w messages.Done = still_goes w
-read_goes w messages.FailedBefore = failing_goes w (store_falls owner w) (store_falls_goes w)
-read_goes w messages.FailedAfter = failing_goes w (store_falls owner w) (store_falls_goes w)
+pub read_goes : (w : moves.World) (table : ℕ) (luck : Luck) → Goes w (read_moves w table luck)
+read_goes w table messages.Done = still_goes w
+read_goes w table messages.FailedBefore = failing_goes w (store_falls (owner_of w table) w) (store_falls_goes (owner_of w table) w)
+read_goes w table messages.FailedAfter = failing_goes w (store_falls (owner_of w table) w) (store_falls_goes (owner_of w table) w)
 
-pub read_is : (w : moves.World) (hosted : Hosted) (row : List ℕ) (luck : Luck) → row_read w hosted row luck ≡ answering (row_shown (current_of hosted.store.disk.items row)) (read_moves w luck)
-read_is w hosted row messages.Done = refl
-read_is w hosted row messages.FailedBefore = refl
-read_is w hosted row messages.FailedAfter = refl
+pub read_is : (w : moves.World) (table : ℕ) (hosted : Hosted) (row : List ℕ) (luck : Luck)
+    → row_read w table hosted row luck ≡ answering (row_shown (current_of hosted.store.disk.items row)) (read_moves w table luck)
+read_is w table hosted row messages.Done = refl
+read_is w table hosted row messages.FailedBefore = refl
+read_is w table hosted row messages.FailedAfter = refl

@@ -1,41 +1,20 @@
 -- A call of the world as a step, and the faults that come of it.
-use Rattle.std.proofs.Common.{◌≡◌, ◌≢◌, ◌⊎◌, ⊎_elim, ℕ, suc, ◌+◌, ◌≤◌, List, [], Option, Result, Ok, Err, refl, sym, ◌∙◌, ap, subst, arith, Bool}
+use Rattle.std.proofs.Common.{◌≡◌, ◌≢◌, ◌⊎◌, ⊎_elim, ℕ, suc, ◌+◌, ◌≤◌, List, Option, Result, Ok, Err, refl, sym, ◌∙◌, ap, subst, arith, Bool}
 use Rattle.std.specs.Prelude.{IfOk, IfErr}
 use Rattle.disk_trait.specs.Calls.{DiskState, IsCounted}
 use Rattle.table_model.specs.declared.event.Event.{Event}
 use Rattle.table_model.specs.declared.event.Event.TheVariants as events
-use Rattle.world_tables.specs.World.{no_lucks}
 use Rattle.world_tables.specs.World as moves
 use Rattle.node_steps.specs.declared.fault.WorldFault.{WorldFault}
 use Rattle.node_steps.specs.declared.fault.WorldFault.TheVariants.{Memory, Limit, Depot}
 use Rattle.node_steps.specs.declared.told.Told.{Told}
 use Rattle.node_steps.specs.declared.world.World.{World}
-use Rattle.node_steps.specs.Holds.{Holds, AreOut}
 use Rattle.node_steps.specs.Steps.{HavePlansBelow, IsStep, may_begin}
-use Rattle.node_steps.specs.Told.{IsOnly}
-use Rattle.node_steps.proofs.Done.{no_outs_told}
-use Rattle.node_steps.proofs.Rows.{over_first, stay_over}
-use Rattle.fair_laws.specs.Reached.{IsReached}
 use Rattle.world_laws.specs.Begun.{IsSingle}
 use Rattle.journal_host.specs.declared.host.ClientHost.{ClientHost}
 use Rattle.journal_host.specs.Holds as hosts
-use Rattle.store_host.specs.Holds.{AreLeft}
 
 -- ---- steps
-
-pub nothing_done : {D : Type 0} (state : D → DiskState) (images : D → ℕ → List ℕ → Type 0) (w : moves.World) (number : ℕ) (is_out : ℕ → Bool) (world : World D) (told : Told)
-    → IsReached w → Holds state w world → AreOut is_out w → IsOnly [] told → AreLeft state images w world.store.tables world.store.tables
-    → IsStep state images w (events.Store number) told is_out world world
-nothing_done state images w number is_out world told r h out is left = record {
-  lucks = no_lucks;
-  lines_are = is.lines_are;
-  outs_are = no_outs_told told.outs is.none;
-  held = h;
-  out = out;
-  rose = λ t. absurd cc;
-  same = λ f. refl;
-  rows = stay_over state images w r (events.Store number) no_lucks world world (over_first state images w w world.store.tables world.store.tables left);
-}
 
 -- the tables are those of the event
 pub joins_as : {D : Type 0} (state : D → DiskState) (images : D → ℕ → List ℕ → Type 0) (w : moves.World) (c : ℕ) (gate : Option ℕ) (made tables : List ℕ) (is_out : ℕ → Bool) (old new : World D)

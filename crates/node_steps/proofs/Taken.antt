@@ -1,14 +1,12 @@
--- What a message for one of its tables, or a look at a row, comes to at the Store.
-use Rattle.std.proofs.Common.{◌≡◌, ℕ, Bool, true, false, cond, List, [], ◌∷◌, ◌++◌, Option, Some, None, Result, Ok, Err, refl, sym, ◌∙◌, ap, subst, append-nil, append_assoc}
+-- What a message for a table, or a look at a row, comes to at its Store.
+use Rattle.std.proofs.Common.{◌≡◌, ℕ, Bool, true, false, List, [], ◌∷◌, ◌++◌, Option, Some, None, Result, Ok, Err, refl, sym, ◌∙◌, ap, subst, append-nil, append_assoc}
 use Rattle.std.specs.Prelude.{if◌then◌else◌, ◌||◌, ◌&&◌, ◌==◌, nat_lt, option_map, IfOk, IfErr, is_some}
 use Rattle.std.specs.Ordering.{nat_cmp}
-use Rattle.std.specs.Cmp.{nat_cmp_total}
-use Rattle.std.specs.BTreeMap.{is_at, insert_entry}
-use Rattle.std.specs.BTreeMap as tree
-use Rattle.std.specs.List.Sorted.{IsStrictlySortedBy}
+use Rattle.std.specs.BTreeMap.{insert_entry}
 use Rattle.std.proofs.lemmas.List.Elements.{filter-append}
 use Rattle.disk_trait.specs.Calls.{DiskState}
 use Rattle.stab_base.specs.declared.node.Node.{Node}
+use Rattle.stab_base.specs.declared.node.Node.TheVariants as nodes
 use Rattle.row_value.specs.declared.schema.Scheme.{Scheme}
 use Rattle.table_model.specs.declared.entry.Entry.{Entry}
 use Rattle.table_model.specs.declared.line.Answer.{Answer}
@@ -22,23 +20,22 @@ use Rattle.step_tables.specs.Store.{Stored, current_of}
 use Rattle.step_tables.specs.Chunks.{is_spelled}
 use Rattle.step_tables.specs.StoreMoves.{StoreDisk, StoreTask, Take, taken, asked, decided, judged, takes, keeps_there, version_of, version_at, yours_in}
 use Rattle.step_tables.specs.StoreMoves as store
-use Rattle.step_tables.proofs.Lists.{lookup-insert}
 use Rattle.store_node.specs.Calls.{IsAtWork}
 use Rattle.store_node.specs.Reading.{shown_of}
 use Rattle.store_node.specs.declared.showing.ShownRow.{ShownRow}
 use Rattle.store_host.specs.declared.host.StoreHost.{StoreHost}
-use Rattle.store_host.specs.Holds.{HoldsStore, HostedThere, outs_of, outs_in, says_something, said_by}
+use Rattle.store_host.specs.Holds.{HoldsStore, outs_of, outs_in, says_something, said_by}
 use Rattle.store_host.specs.Calls.{IsMoved, IsBusyWith, IsSpentIn}
-use Rattle.store_host.proofs.Maps.{keys_kept, at_same}
-use Rattle.world_tables.specs.World.{World, Moved, Outbox, Packet, Hosted, owner, hosted_at, schema_at, scheme_in, chunk_in, still, and_then, failing, is_fault, table_step}
-use Rattle.world_tables.specs.World.{move_table, move_hosted, store_falls, store_follows, has_node, the_store}
+use Rattle.world_tables.specs.World.{World, Moved, Outbox, Packet, Hosted, owner_of, hosted_at, schema_at, scheme_in, chunk_in, still, and_then, failing, is_fault, table_step}
+use Rattle.world_tables.specs.World.{move_table, move_hosted, store_falls, store_follows, has_node}
 use Rattle.world_tables.specs.World.{table_follows, is_at_work, to_hosted, take_at, row_shown}
 use Rattle.node_steps.specs.declared.fault.WorldFault.{WorldFault}
 use Rattle.node_steps.specs.declared.fault.WorldFault.TheVariants.{Limit as LimitPassed}
 use Rattle.node_steps.specs.Steps.{IsFull}
 use Rattle.node_steps.specs.Outs.{IsAnswered, IsTakenAs, read_moves}
 use Rattle.node_steps.proofs.Showing.{some_of}
-use Rattle.node_steps.proofs.Going.{still_goes, then_goes, failing_goes, table_goes, table_follows_goes, store_falls_goes}
+use Rattle.node_steps.proofs.Staying.{entry_kept, store_stays}
+use Rattle.node_steps.proofs.Going.{still_goes, then_goes, failing_goes, table_goes, table_follows_goes, store_falls_goes, owners_stay}
 
 -- ---- what an idle table answers
 
@@ -99,34 +96,11 @@ then_answered state old mid new m f a given moved well is k = record {
 
 -- ---- a table that stays as it is
 
-same_value : (w : World) (table : ℕ) (hosted : Hosted) → hosted_at w table ≡ Some hosted → (packets : List Packet) (q : ℕ)
-    → hosted_at (record w { tables = insert_entry nat_cmp w.tables table hosted; packets = packets }) q ≡ hosted_at w q
-same_value w table hosted at packets q = lookup-insert nat_cmp nat_cmp_total w.tables table hosted q ∙ go (is_at (nat_cmp table) q) refl
-  where
-    go : (b : Bool) → is_at (nat_cmp table) q ≡ b → cond b (Some hosted) (hosted_at w q) ≡ hosted_at w q
-    go true e = sym at ∙ ap (λ (k : ℕ). hosted_at w k) (at_same table q e)
-    go false e = refl
-
 same_store : {D : Type 0} (state : D → DiskState) (w : World) (it : StoreHost D) (table : ℕ) (hosted : Hosted) → hosted_at w table ≡ Some hosted → (packets : List Packet) → HoldsStore state w it
     → HoldsStore state (record w { tables = insert_entry nat_cmp w.tables table hosted; packets = packets }) it
-same_store {D} state w it table hosted at packets h = record {
-  number = h.number;
-  up = h.up;
-  tables = record {
-    there = λ q. subst (λ (o : Option Hosted). HostedThere state (schema_at w q) q o (tree.get nat_cmp it.tables q)) (sym (same_value w table hosted at packets q)) (h.tables.there q);
-    all = h.tables.all ∙ sym (keys_kept w.tables table hosted hosted (subst (λ (ks : List ℕ). IsStrictlySortedBy nat_cmp ks) h.tables.all h.tables.rising) at);
-    keys = h.tables.keys;
-    rising = h.tables.rising;
-  };
-  ups = λ e q x there. h.ups e q x (sym (same_value w table hosted at packets q) ∙ there);
-}
-
-pub holds_same : (w : World) (table : ℕ) (from : Node) (m : messages.Message) → (move_table table (Take from m) w).world.holds ≡ w.holds
-holds_same w table from m = go (hosted_at w table)
-  where
-    go : (o : Option Hosted) → (move_hosted w table (Take from m) o).world.holds ≡ w.holds
-    go None = refl
-    go (Some hosted) = refl
+same_store {D} state w it table hosted at packets h =
+    subst (λ (tables : List (ℕ × Hosted)). HoldsStore state (record w { tables = tables; packets = packets }) it) (sym (entry_kept w.tables table hosted h.tables.rising at))
+    (store_stays state w it w.clients packets w.holds w.cuts w.phases h)
 
 -- ---- a message
 
@@ -167,29 +141,31 @@ module _ {D : Type 0} (state : D → DiskState) (w : World) (old : StoreHost D) 
           },
         )
 
-    pub fallen : (new : StoreHost D) → hosted.store.agenda ≡ Some [] → IsMoved state old new (store_falls owner w) → (given : Answer) → answer_of given ≡ facts.Refuses facts.NoDevice
+    pub fallen : (new : StoreHost D) → hosted.store.agenda ≡ Some [] → IsMoved state old new (store_falls (owner_of w (table_of m)) w) → (given : Answer) → answer_of given ≡ facts.Refuses facts.NoDevice
         → (all : List Luck) × IsTakenAs state w from m all old new given
     fallen new idle moved given is = (
       messages.FailedBefore ∷ [],
       record {
         answer = facts.Done;
-        moves = failing (store_falls owner w);
+        moves = failing (store_falls (owner_of w (table_of m)) w);
         step_is = ap (to_hosted w (table_of m) (Take from m) (messages.FailedBefore ∷ [])) at ∙ ap (take_at w (table_of m) hosted (Take from m) (messages.FailedBefore ∷ [])) idle;
         answered = record { moved = record { held = moved.held; outs = moved.outs }; answer_is = is };
-        goes = failing_goes w (store_falls owner w) (store_falls_goes w);
+        goes = failing_goes w (store_falls (owner_of w (table_of m)) w) (store_falls_goes (owner_of w (table_of m)) w);
       },
     )
 
-  pub done_ok : (mid new : StoreHost D) (hosted : Hosted) → hosted_at w (table_of m) ≡ Some hosted → hosted.store.agenda ≡ Some [] → IsMoved state old mid (move_table (table_of m) (Take from m) w)
-      → (is_held : Bool) → is_held ≡ has_node w.holds the_store → (table : ℕ) → table ≡ table_of m → (result : Result Answer WorldFault)
-      → ((x : World) → HoldsStore state x mid → is_held ≡ has_node x.holds the_store → IfOk result
+  pub done_ok : (number : ℕ) (mid new : StoreHost D) (hosted : Hosted) → hosted_at w (table_of m) ≡ Some hosted → hosted.store.agenda ≡ Some []
+      → IsMoved state old mid (move_table (table_of m) (Take from m) w) → (is_held : Bool) → owner_of w (table_of m) ≡ number → is_held ≡ has_node w.holds (nodes.Store number)
+      → (table : ℕ) → table ≡ table_of m → (result : Result Answer WorldFault)
+      → ((x : World) → HoldsStore state x mid → owner_of x table ≡ number → is_held ≡ has_node x.holds (nodes.Store number) → IfOk result
       (λ given. (lucks : List Luck) × IsAnswered state mid new facts.Done (table_follows table lucks x) given))
       → IfOk result (λ given. (all : List Luck) × IsTakenAs state w from m all old new given)
-  done_ok mid new hosted at idle moved is_held is table same (Err e) k = tt
-  done_ok mid new hosted at idle moved is_held is table same (Ok given) k =
-      let after : World = (move_table (table_of m) (Take from m) w).world in
-      let x = k after moved.held (is ∙ ap (λ (ns : List Node). has_node ns the_store) (sym (holds_same w (table_of m) from m))) in
-      done hosted at mid new idle moved x.0 given (subst (λ (t : ℕ). IsAnswered state mid new facts.Done (table_follows t x.0 after) given) same x.1)
+  done_ok number mid new hosted at idle moved is_held own is table same (Err e) k = tt
+  done_ok number mid new hosted at idle moved is_held own is table same (Ok given) k =
+      let after : Moved = move_table (table_of m) (Take from m) w in
+      let goes = table_goes w (table_of m) (Take from m) in
+      let x = k after.world moved.held (ap (λ (f : ℕ → ℕ). f table) (owners_stay w after goes) ∙ (ap (owner_of w) same ∙ own)) (is ∙ ap (λ (ns : List Node). has_node ns (nodes.Store number)) (sym goes.holds)) in
+      done hosted at mid new idle moved x.0 given (subst (λ (t : ℕ). IsAnswered state mid new facts.Done (table_follows t x.0 after.world) given) same x.1)
 
   pub ok_there : (new : StoreHost D) (table : ℕ) → table ≡ table_of m → true ≡ is_some (hosted_at w table) → (result : Result Answer WorldFault)
       → ((hosted : Hosted) → hosted_at w (table_of m) ≡ Some hosted → IfOk result (λ given. (all : List Luck) × IsTakenAs state w from m all old new given))
@@ -234,24 +210,27 @@ module _ {D : Type 0} (state : D → DiskState) (old : StoreHost D) (w : World) 
   pub rests : HoldsStore state w old → false ≡ is_at_work w table → answer_of given ≡ facts.Done → (lucks : List Luck) × IsAnswered state old old facts.Done (table_follows table lucks w) given
   rests h idle is = (
     [],
-    subst (λ (m : Moved). IsAnswered state old old facts.Done m given) (ap (λ (b : Bool). if b then store_follows owner [] w else still w) idle)
+    subst (λ (m : Moved). IsAnswered state old old facts.Done m given) (ap (λ (b : Bool). if b then store_follows (owner_of w table) [] w else still w) idle)
         (record { moved = record { held = h; outs = sym (append-nil (outs_of old)) }; answer_is = is }),
   )
 
-pub goes_on : {D : Type 0} (state : D → DiskState) (old new : StoreHost D) (w : World) (table : ℕ) (result : Result Answer WorldFault) → true ≡ is_at_work w table
-    → IfOk result (λ given. (lucks : List Luck) × IsAnswered state old new facts.Done (store_follows owner lucks w) given)
+pub goes_on : {D : Type 0} (state : D → DiskState) (old new : StoreHost D) (number : ℕ) (w : World) (table : ℕ) (result : Result Answer WorldFault) → owner_of w table ≡ number → true ≡ is_at_work w table
+    → IfOk result (λ given. (lucks : List Luck) × IsAnswered state old new facts.Done (store_follows number lucks w) given)
     → IfOk result (λ given. (lucks : List Luck) × IsAnswered state old new facts.Done (table_follows table lucks w) given)
-goes_on state old new w table (Err e) busy k = tt
-goes_on state old new w table (Ok given) busy k =
-    (k.0, subst (λ (m : Moved). IsAnswered state old new facts.Done m given) (ap (λ (b : Bool). if b then store_follows owner k.0 w else still w) busy) k.1)
+goes_on state old new number w table (Err e) own busy k = tt
+goes_on state old new number w table (Ok given) own busy k = (
+  k.0,
+  subst (λ (m : Moved). IsAnswered state old new facts.Done m given)
+      (ap (λ (n : ℕ). store_follows n k.0 w) (sym own) ∙ ap (λ (b : Bool). if b then store_follows (owner_of w table) k.0 w else still w) busy) k.1,
+)
 
 -- ---- a look at a row
 
-module _ {D : Type 0} (state : D → DiskState) (w : World) (old new : StoreHost D) (a : facts.Answer) (given : Answer) where
-  pub read_well : HoldsStore state w new → new.outs ≡ old.outs → answer_of given ≡ a → (luck : Luck) × IsAnswered state old new a (read_moves w luck) given
+module _ {D : Type 0} (state : D → DiskState) (w : World) (table : ℕ) (old new : StoreHost D) (a : facts.Answer) (given : Answer) where
+  pub read_well : HoldsStore state w new → new.outs ≡ old.outs → answer_of given ≡ a → (luck : Luck) × IsAnswered state old new a (read_moves w table luck) given
   read_well h outs is = (messages.Done, record { moved = record { held = h; outs = ap outs_in outs ∙ sym (append-nil (outs_of old)) }; answer_is = is })
 
-  pub read_badly : IsMoved state old new (store_falls owner w) → answer_of given ≡ facts.Refuses facts.NoDevice → (luck : Luck) × IsAnswered state old new a (read_moves w luck) given
+  pub read_badly : IsMoved state old new (store_falls (owner_of w table) w) → answer_of given ≡ facts.Refuses facts.NoDevice → (luck : Luck) × IsAnswered state old new a (read_moves w table luck) given
   read_badly moved is = (messages.FailedBefore, record { moved = record { held = moved.held; outs = moved.outs }; answer_is = is })
 
 -- ---- versions

@@ -7,10 +7,8 @@ use Rattle.step_tables.specs.Facts.{AnswerLine, PairLine}
 use Rattle.step_tables.specs.Lines.{line_of}
 use Rattle.step_tables.specs.Messages.{Luck}
 use Rattle.step_tables.specs.ClientMoves.{Shape}
-use Rattle.world_tables.specs.World.{WorldStep, Lucks, no_lucks, hosted_at, client_at}
-use Rattle.journal_host.specs.declared.out.ClientOut.{ClientOut}
+use Rattle.world_tables.specs.World.{WorldStep, Lucks, no_lucks, owner_of, hosted_at, client_at}
 use Rattle.journal_host.specs.Holds.{HoldsClients}
-use Rattle.journal_host.specs.Holds as clients
 use Rattle.world_tables.specs.World as moves
 use Rattle.node_steps.specs.declared.fault.WorldFault.{WorldFault}
 use Rattle.node_steps.specs.declared.told.Outs.TheVariants as outs
@@ -24,7 +22,7 @@ use Rattle.node_steps.specs.Told.{answer_lines, AreOuts}
 pub record IsDone {D : Type 0} (state : D → DiskState) (w : moves.World) (s : WorldStep) (told : Told) (new : World D)
     : Type 0 where
   pub lines_are : map line_of told.lines ≡ answer_lines s
-  pub outs_are : AreOuts told.outs s.outs
+  pub outs_are : AreOuts (owner_of s.world) told.outs s.outs
   pub held : Holds state s.world new
   pub tables : (table : ℕ) → is_some (hosted_at s.world table) ≡ is_some (hosted_at w table)
   pub clients : (c : ℕ) → is_some (client_at s.world c) ≡ is_some (client_at w c)
@@ -42,7 +40,7 @@ abbrev pub Comes : {D : Type 0} → (D → DiskState) → moves.World → (Lucks
     → World D → Type 0
 Comes state w f result new = IfOk result (λ told. (lucks : Lucks) × IsDone state w (f lucks) told new)
 
--- The answer, and behind it what waited at the Store to be told and sent. Only what waits has changed.
+-- The answer, and behind it what waited at the Stores to be told and sent. Only what waits has changed.
 pub record HasTold {D : Type 0} (old new : World D) (answer : facts.Answer) (told : Told) : Type 0 where
   pub lines_are : map line_of told.lines ≡ AnswerLine answer ∷ []
   pub outs_are : told.outs ≡ outs.OfStore old.store.outs
@@ -53,12 +51,10 @@ pub record HasTold {D : Type 0} (old new : World D) (answer : facts.Answer) (tol
 pub record HasToldPairs {D : Type 0} (state : D → DiskState) (old new : World D) (answer : facts.Answer)
     (pairs : List RowPair) (told : Told) : Type 0 where
   pub lines_are : map line_of told.lines ≡ AnswerLine answer ∷ map PairLine pairs
-  pub waited : List ClientOut
-  pub outs_are : told.outs ≡ outs.OfClients waited
-  pub waited_are : clients.outs_in waited ≡ clients.outs_of old.clients
+  pub outs_are : told.outs ≡ outs.OfClients old.clients.outs.items
   pub held : (w : moves.World) → HoldsClients state w old.clients → HoldsClients state w new.clients
   pub nodes : new.clients.clients ≡ old.clients.clients
-  pub none_waits : clients.outs_of new.clients ≡ []
+  pub none_waits : new.clients.outs.items ≡ []
   pub same : new ≡ record old { clients = new.clients }
 
 -- where it counts none

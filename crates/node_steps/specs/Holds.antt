@@ -1,19 +1,19 @@
 -- What the nodes of the program hold of the world of the laws, and which disks they have from their depot. Packets are
 -- whoever's.
-use Rattle.std.specs.Prelude.{◌≡◌, ℕ, ◌+◌, ◌-◌, ◌*◌, ◌<◌, ◌≤◌, Bool, false, [], is_some}
+use Rattle.std.specs.Prelude.{◌≡◌, ℕ, ◌+◌, ◌-◌, ◌*◌, ◌<◌, ◌≤◌, Bool, true, [], is_some}
 use Rattle.std.specs.Ordering.{nat_cmp}
 use Rattle.std.specs.BTreeMap as tree
 use Rattle.disk_trait.specs.Calls.{DiskState}
 use Rattle.stab_base.specs.declared.node.Node.{Node}
+use Rattle.stab_base.specs.declared.node.Node.TheVariants as nodes
 use Rattle.fair_laws.specs.Reached.{IsReached}
-use Rattle.world_tables.specs.World.{schema_at, hosted_at, client_at, has_node, same_node, the_store}
+use Rattle.world_tables.specs.World.{schema_at, hosted_at, client_at}
 use Rattle.world_tables.specs.World as moves
-use Rattle.store_host.specs.Holds.{HoldsStore}
-use Rattle.store_host.specs.Holds as stores
+use Rattle.store_host.specs.declared.host.StoreHost.{StoreHost}
+use Rattle.store_host.specs.Holds.{HoldsStore, is_up_at}
 use Rattle.journal_host.specs.Holds.{HoldsClients}
-use Rattle.journal_host.specs.Holds as hosts
 use Rattle.node_steps.specs.declared.world.World.{World}
-use Rattle.node_steps.specs.Nodes.{HasNodes, is_in}
+use Rattle.node_steps.specs.Nodes.{HasNodes}
 use Rattle.node_steps.specs.Numbers.{AreNumbered}
 
 -- ---- the world
@@ -22,13 +22,16 @@ pub record Holds {D : Type 0} (state : D → DiskState) (w : moves.World) (world
   pub schemas : (table : ℕ) → tree.get nat_cmp world.schemas table ≡ schema_at w table
   pub store : HoldsStore state w world.store
   pub clients : HoldsClients state w world.clients
-  -- what the Store and the clients told and sent was handed over
-  pub store_told : stores.outs_of world.store ≡ []
-  pub clients_told : hosts.outs_of world.clients ≡ []
+  -- what the Stores and the clients told and sent was handed over
+  pub store_told : world.store.outs ≡ []
+  pub clients_told : world.clients.outs.items ≡ []
   pub held : HasNodes w.holds world.held
-  -- the Stores that are down, but for the first, which says so itself
-  pub downs : (node : Node) → same_node node the_store ≡ false → is_in world.downs node ≡ has_node w.downs node
   pub numbered : AreNumbered w
+
+-- where the node is a Store it is up
+abbrev pub IsUpStore : {D : Type 0} → StoreHost D → Node → Type 0
+IsUpStore host (nodes.Store number) = is_up_at host number ≡ true
+IsUpStore host other = Unit {0}
 
 -- ---- disks
 

@@ -1,7 +1,6 @@
 pub mod Asked
 pub mod Told
 pub mod Nodes
-pub mod Places
 pub mod Numbers
 pub mod Holds
 pub mod Outs

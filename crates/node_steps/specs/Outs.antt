@@ -1,5 +1,5 @@
 -- What a Store's moves come to: what they keep of the world, and what is answered.
-use Rattle.std.specs.Prelude.{◌≡◌, ℕ, false, List, is_some, if◌then◌else◌}
+use Rattle.std.specs.Prelude.{◌≡◌, ℕ, List, is_some, if◌then◌else◌}
 use Rattle.disk_trait.specs.Calls.{DiskState}
 use Rattle.table_model.specs.declared.line.Answer.{Answer}
 use Rattle.step_tables.specs.Facts as facts
@@ -8,22 +8,22 @@ use Rattle.step_tables.specs.Messages as messages
 use Rattle.step_tables.specs.StoreMoves.{Take}
 use Rattle.stab_base.specs.declared.node.Node.{Node}
 use Rattle.step_tables.specs.Lines.{answer_of}
-use Rattle.world_tables.specs.World.{World, Moved, still, failing, store_falls, owner, to_hosted, hosted_at}
-use Rattle.world_tables.specs.World.{answering, same_node, has_node, the_store}
+use Rattle.world_tables.specs.World.{World, Moved, still, failing, store_falls, owner_of, to_hosted, hosted_at}
+use Rattle.world_tables.specs.World.{answering}
 use Rattle.store_host.specs.declared.host.StoreHost.{StoreHost}
 use Rattle.store_host.specs.Calls.{IsMoved}
 
--- What a Store's moves keep of a world: all but its tables, its packets, and whether it is down.
+-- What a Store's moves keep of a world: all but the tables, the packets, and which Stores are down.
 pub record Goes (w : World) (m : Moved) : Type 0 where
+  pub stores : m.world.stores ≡ w.stores
   pub schemas : m.world.schemas ≡ w.schemas
   pub clients : m.world.clients ≡ w.clients
   pub holds : m.world.holds ≡ w.holds
   pub cuts : m.world.cuts ≡ w.cuts
   pub phases : m.world.phases ≡ w.phases
-  pub downs : (node : Node) → same_node node the_store ≡ false → has_node m.world.downs node ≡ has_node w.downs node
   pub tables : (table : ℕ) → is_some (hosted_at m.world table) ≡ is_some (hosted_at w table)
 
--- The Store did these moves. The answer is this one, or that a device failed.
+-- The Stores did these moves. The answer is this one, or that a device failed.
 pub record IsAnswered {D : Type 0} (state : D → DiskState) (old new : StoreHost D) (answer : facts.Answer) (m : Moved)
     (given : Answer) : Type 0 where
   pub moved : IsMoved state old new m
@@ -39,8 +39,8 @@ pub record IsTakenAs {D : Type 0} (state : D → DiskState) (w : World) (from : 
   pub answered : IsAnswered state old new answer moves given
   pub goes : Goes w moves
 
--- a read of the disks, which may fail
-abbrev pub read_moves : World → Luck → Moved
-read_moves w messages.Done = still w
-read_moves w messages.FailedBefore = failing (store_falls owner w)
-read_moves w messages.FailedAfter = failing (store_falls owner w)
+-- a read of a table's disks, which may fail
+abbrev pub read_moves : World → ℕ → Luck → Moved
+read_moves w table messages.Done = still w
+read_moves w table messages.FailedBefore = failing (store_falls (owner_of w table) w)
+read_moves w table messages.FailedAfter = failing (store_falls (owner_of w table) w)

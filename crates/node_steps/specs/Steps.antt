@@ -5,7 +5,7 @@ use Rattle.stab_base.specs.declared.limits.TheConstants.{NUMBER_MAX}
 use Rattle.table_model.specs.declared.event.Event.{Event}
 use Rattle.table_model.specs.declared.event.Event.TheVariants as events
 use Rattle.step_tables.specs.Lines.{line_of}
-use Rattle.world_tables.specs.World.{Lucks, step, hosted_at, client_at, client_pairs}
+use Rattle.world_tables.specs.World.{Lucks, step, owner_of, hosted_at, client_at, client_pairs}
 use Rattle.world_tables.specs.World as moves
 use Rattle.world_tables.specs.Faults.{is_device_fault}
 use Rattle.journal_host.specs.Calls.{IsLast}
@@ -25,7 +25,7 @@ pub record IsStep {D : Type 0} (state : D → DiskState) (images : D → ℕ →
     (event : Event) (told : Told) (is_out : ℕ → Bool) (old new : World D) : Type 0 where
   pub lucks : Lucks
   pub lines_are : map line_of told.lines ≡ answer_lines (step w event lucks)
-  pub outs_are : AreOuts told.outs (step w event lucks).outs
+  pub outs_are : AreOuts (owner_of (step w event lucks).world) told.outs (step w event lucks).outs
   pub held : Holds state (step w event lucks).world new
   pub out : AreOut is_out (step w event lucks).world
   pub rose : is_device_fault w event lucks ≡ true → all_faults state old < all_faults state new

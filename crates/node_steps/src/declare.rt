@@ -1,18 +1,19 @@
-//! The declarations of tables and of clients.
-ghost use Rattle.std.specs.Prelude.{◌≡◌, ◌≢◌, ◌⊎◌, ◌==◌, ◌||◌, ◌+◌, ◌*◌, ◌-◌, ◌<◌, ◌≤◌, ℕ, false, true, Option, None};
+//! The declarations of Stores, of tables and of clients.
+ghost use Rattle.std.specs.Prelude.{◌≡◌, ◌≢◌, ◌⊎◌, ◌==◌, ◌||◌, ◌+◌, ◌*◌, ◌-◌, ◌<◌, ℕ, false, Option, None};
 ghost use Rattle.std.specs.Prelude.{IfOk, IfErr, OnOk, OnErr};
 ghost use Rattle.std.specs.Ordering.{nat_cmp};
 ghost use Rattle.std.specs.BTreeMap as tree;
 ghost use Rattle.disk_trait.specs.Calls.{IsCounted};
 ghost use Rattle.table_model.specs.declared.event.Event.TheVariants as events;
-ghost use Rattle.world_tables.specs.World.{World as AWorld};
+ghost use Rattle.world_tables.specs.World.{World as AWorld, step};
 ghost use Rattle.node_steps.specs.declared.fault.WorldFault.TheVariants.{Depot as DepotFailed, Memory};
 ghost use Rattle.row_store.specs.Spelling.{IsClient};
 ghost use Rattle.fair_laws.specs.Reached.{IsMade, IsReached};
 ghost use Rattle.fair_laws.specs.Worlds.{IsFair};
-ghost use Rattle.node_steps.specs.Holds.{Holds, AreOut, first_disk};
+ghost use Rattle.node_steps.specs.Holds.{Holds, AreOut};
+ghost use Rattle.store_host.specs.Holds.{AreLeft};
 ghost use Rattle.store_host.specs.Steps.{faults_of};
-ghost use Rattle.node_steps.specs.Faults.{IsUndone};
+ghost use Rattle.node_steps.specs.Faults.{IsUndone, ComesCounted};
 ghost use Rattle.node_steps.specs.Steps.{HavePlansBelow, IsStep};
 
 use crate::fault::WorldFault;
@@ -21,6 +22,7 @@ use crate::told::Told;
 use crate::world::World;
 use disk_trait::{Depot, DepotFault, Disk};
 use row_value::{ClientNo, Schema, TableNo};
+use stab_base::StoreNo;
 
 // A disk of the depot.
 fn hand_out<P: Depot>(depot: &mut P, number: u32) -> Result<P::Disk, WorldFault>
@@ -91,6 +93,22 @@ fn hand_out_three<P: Depot>(
 }
 
 impl<D: Disk + Drop> World<D> {
+    /// Declares a Store: it keeps the tables whose owner it becomes.
+    pub(crate) fn declare_store(&mut self, store: StoreNo) -> Result<Told, WorldFault>
+        requires held { (w : AWorld) × Holds D.state w self.old }
+        ensures done { (w : AWorld) → Holds D.state w self.old
+            → ComesCounted D.state w (step w (events.Store store)) (λ lucks. false) result self.old self.new }
+        ensures rows { (w : AWorld) → Holds D.state w self.old → IfOk result (λ told.
+            AreLeft D.state D.images w self.old.store.tables self.new.store.tables) }
+        ensures clients { self.new.clients ≡ self.old.clients }
+        ensures memory { IfErr result (λ e. e ≡ Memory) }
+    {
+        match self.store.declare_store(store) {
+            Ok(()) => Ok(self.silent()),
+            Err(_) => Err(WorldFault::Memory),
+        }
+    }
+
     /// Declares a table; one that is there stays as it is.
     pub(crate) fn declare<P: Depot<Disk = D>>(
         &mut self,

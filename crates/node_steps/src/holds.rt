@@ -1,14 +1,13 @@
 //! Nodes on hold, and nodes that are down.
-ghost use Rattle.std.specs.Prelude.{◌≡◌, ◌∷◌, [], true, false, not, map, IfOk, IfErr};
+ghost use Rattle.std.specs.Prelude.{◌≡◌, ◌∷◌, [], false, map, IfOk, IfErr};
 ghost use Rattle.step_tables.specs.Facts as moves;
 ghost use Rattle.step_tables.specs.Facts.{AnswerLine};
 ghost use Rattle.step_tables.specs.Lines.{answer_of, line_of};
 ghost use Rattle.table_model.specs.declared.event.Event.TheVariants as events;
-ghost use Rattle.world_tables.specs.World.{World as AWorld, step, is_down, has_node, same_node, the_store, answered};
-ghost use Rattle.world_tables.specs.World.{without_node};
+ghost use Rattle.world_tables.specs.World.{World as AWorld, step, is_down, has_node, answered, without_node};
 ghost use Rattle.node_steps.specs.declared.fault.WorldFault.TheVariants.{Memory};
 ghost use Rattle.node_steps.specs.Calls.{Comes};
-ghost use Rattle.node_steps.specs.Holds.{Holds};
+ghost use Rattle.node_steps.specs.Holds.{Holds, IsUpStore};
 ghost use Rattle.node_steps.specs.Told.{IsOnly};
 
 use crate::fault::WorldFault;
@@ -18,19 +17,6 @@ use disk_trait::Disk;
 use row_value::Sequence;
 use stab_base::Node;
 use table_model::{Answer, Refusal, TextLine};
-
-/// The one Store, which owns every table.
-pub(crate) const STORE: Node = Node::Store(1);
-
-/// Whether this is the one Store.
-pub(crate) fn is_owner(node: Node) -> bool
-    ensures { result ≡ same_node node the_store }
-{
-    match node {
-        Node::Store(number) => number == 1,
-        _ => false,
-    }
-}
 
 impl<D: Disk + Drop> World<D> {
     // The line of an answer.
@@ -67,24 +53,13 @@ impl<D: Disk + Drop> World<D> {
         self.only(Answer::Refused(Refusal::Down { node }))
     }
 
-    /// Whether the node is down. A gateway never is.
+    /// Whether the node is down, or a Store that isn't declared. A gateway never is.
     pub fn is_down(&self, node: Node) -> bool
-        ensures store { same_node node the_store ≡ true → result ≡ not self.now.store.is_up }
+        ensures up { result ≡ false → IsUpStore self.now.store node }
         ensures held { (w : AWorld) → Holds D.state w self.now → result ≡ is_down w node }
     {
-        if is_owner(node) {
-            return !self.store.is_up();
-        }
-        self.is_other_down(node)
-    }
-
-    // A gateway has no devices: it is up.
-    fn is_other_down(&self, node: Node) -> bool
-        requires { same_node node the_store ≡ false }
-        ensures { (w : AWorld) → Holds D.state w self.now → result ≡ is_down w node }
-    {
         match node {
-            Node::Store(_) => self.downs.has(node),
+            Node::Store(store) => !self.store.is_up(store),
             Node::Client(client) => self.clients.is_down(client),
             Node::Gate(_) => false,
         }

@@ -1,4 +1,4 @@
-//! The nodes of a world: the Store's tables and the clients on their disks. What they send is handed over.
+//! The nodes of a world: the tables of Stores and the clients on their disks. What they send is handed over.
 #![tactic(auto)]
 
 mod asking;

@@ -2,9 +2,9 @@
 ghost use Rattle.std.specs.Prelude.{◌≡◌, ℕ, suc, true, option_copied, option_map, IfOk, IfErr};
 ghost use Rattle.step_tables.specs.Facts as facts;
 ghost use Rattle.world_tables.specs.World.{World as AWorld, hosted_at, client_at, schema_at, store_falls, client_falls};
-ghost use Rattle.world_tables.specs.World.{owner, Hosted as AHosted};
+ghost use Rattle.world_tables.specs.World.{owner_of, Hosted as AHosted};
 ghost use Rattle.world_tables.specs.Ready.{is_table_ready, is_client_ready, is_idle_table};
-ghost use Rattle.store_host.specs.Holds.{AreLeft};
+ghost use Rattle.store_host.specs.Holds.{AreLeft, is_up_for, is_up_there, owner_at};
 ghost use Rattle.journal_host.specs.Calls.{held_by, has_table};
 ghost use Rattle.node_steps.specs.declared.fault.WorldFault.TheVariants.{Memory};
 ghost use Rattle.node_steps.specs.Calls.{HasTold, HasToldClients};
@@ -13,28 +13,43 @@ ghost use Rattle.node_steps.specs.Reads.{HasRead, IsRowIn, TellsFall};
 ghost use Rattle.node_steps.specs.Steps.{HavePlansBelow};
 
 use crate::fault::WorldFault;
-use crate::holds::STORE;
 use crate::told::Read;
 use crate::world::World;
 use client_node::{CallFault, RowHeld};
 use disk_trait::Disk;
 use row_value::{ClientNo, RowId, Schema, TableNo};
+use stab_base::{Node, StoreNo};
 use store_node::{NodeFault, WholeRow};
 use table_model::{Answer, History, Refusal};
 
 impl<D: Disk + Drop> World<D> {
+    /// The Store that keeps a table; 0 for one that isn't declared.
+    pub fn owner(&self, table: TableNo) -> StoreNo
+        ensures there { result ≡ owner_at self.now.store.tables table }
+        ensures held { (w : AWorld) → Holds D.state w self.now → result ≡ owner_of w table }
+    {
+        self.store.owner(table)
+    }
+
+    /// Whether a table is there and up.
+    pub fn is_table_up(&self, table: TableNo) -> bool
+        ensures { (w : AWorld) → Holds D.state w self.now → result ≡ is_up_there (hosted_at w table) }
+    {
+        self.store.is_table_up(table)
+    }
+
     /// Whether a table takes a message now: it is there and up, and has no writes to do.
     pub fn is_table_ready(&self, table: TableNo) -> bool
         ensures { (w : AWorld) → Holds D.state w self.now → result ≡ is_table_ready w table }
     {
-        if self.is_down(STORE) {
+        if self.is_down(Node::Store(self.owner(table))) {
             return false;
         }
         self.is_table_idle(table)
     }
 
     fn is_table_idle(&self, table: TableNo) -> bool
-        requires up { self.now.store.is_up ≡ true }
+        requires up { is_up_for self.now.store table ≡ true }
         ensures { (w : AWorld) → Holds D.state w self.now → result ≡ is_idle_table (hosted_at w table) }
     {
         if self.store.has(table) {
@@ -73,8 +88,8 @@ impl<D: Disk + Drop> World<D> {
     ) -> Result<Read<Option<WholeRow>>, WorldFault>
         requires held { (w : AWorld) × Holds D.state w self.old × (is_table_ready w table ≡ true) }
         ensures read { (w : AWorld) → Holds D.state w self.old
-            → IfOk result (HasRead D.state w (store_falls owner w) (IsRowIn (hosted_at w table) row.now) self.old
-            self.new) }
+            → IfOk result (HasRead D.state w (store_falls (owner_of w table) w)
+            (IsRowIn (hosted_at w table) row.now) self.old self.new) }
         ensures rows { (w : AWorld) → Holds D.state w self.old → IfOk result (λ read.
             AreLeft D.state D.images w self.old.store.tables self.new.store.tables) }
         ensures clients { self.new.clients ≡ self.old.clients }
@@ -87,7 +102,7 @@ impl<D: Disk + Drop> World<D> {
         }
     }
 
-    // That a disk of the Store has failed.
+    // That a disk of a table has failed.
     fn store_fallen(&mut self) -> Result<Read<Option<WholeRow>>, WorldFault>
         ensures told { IfOk result (TellsFall (HasTold self.old self.new (facts.Refuses facts.NoDevice))) }
         ensures clients { self.new.clients ≡ self.old.clients }

@@ -8,7 +8,7 @@ ghost use Rattle.node_steps.specs.Told.{IsOnly};
 use crate::fault::WorldFault;
 use journal_host::ClientOut;
 use row_value::Sequence;
-use store_node::StoreOut;
+use store_host::TableOut;
 use table_model::{RowPairs, TextLine};
 
 /// The answer of an event, with the lines that it counts.
@@ -18,7 +18,7 @@ pub type Lines = Sequence<TextLine>;
 #[derive(Drop)]
 pub enum Outs {
     Nothing,
-    OfStore(Sequence<StoreOut>),
+    OfStore(Sequence<TableOut>),
     OfClients(Sequence<ClientOut>),
 }
 

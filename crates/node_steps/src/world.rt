@@ -22,14 +22,13 @@ use std::collections::BTreeMap;
 use store_host::StoreHost;
 use table_model::Event;
 
-/// The declared tables and the clients on their disks.
+/// The declared Stores with their tables, and the clients, on their disks.
 #[derive(Drop)]
 pub struct World<D: Disk> {
     pub(crate) schemas: BTreeMap<TableNo, Schema>,
     pub(crate) store: StoreHost<D>,
     pub(crate) clients: ClientHost<D>,
     pub(crate) held: NodeSet,
-    pub(crate) downs: NodeSet,
     pub(crate) alloc: Global,
 }
 
@@ -41,10 +40,9 @@ impl<D: Disk + Drop> World<D> {
     {
         World {
             schemas: BTreeMap::new(alloc),
-            store: StoreHost::new(alloc, 1),
+            store: StoreHost::new(alloc),
             clients: ClientHost::new(alloc),
             held: NodeSet::new(alloc),
-            downs: NodeSet::new(alloc),
             alloc,
         }
     }
@@ -81,7 +79,7 @@ impl<D: Disk + Drop> World<D> {
             return self.call(client, ask);
         }
         match event {
-            Event::Store { .. } => Ok(self.silent()),
+            Event::Store { store } => self.declare_store(*store),
             Event::Table { table, schema } => self.declare(depot, *table, schema),
             Event::Client { client, tables, .. } => self.join(depot, *client, tables.as_slice()),
             Event::Link { client, up } => self.link(*client, *up),

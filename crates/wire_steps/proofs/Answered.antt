@@ -6,6 +6,7 @@ use Rattle.std.specs.Ordering.{nat_cmp}
 use Rattle.disk_trait.specs.Calls.{DiskState}
 use Rattle.disk_trait.specs.Fuse.{behind, inner_of}
 use Rattle.disk_trait.specs.Image.{IsImage}
+use Rattle.stab_base.specs.declared.node.Node.TheVariants as nodes
 use Rattle.row_value.specs.declared.schema.Schema.{Schema}
 use Rattle.row_store.specs.Spelling.{IsClient}
 use Rattle.store_commit.proofs.Moments.{rows_then}
@@ -23,7 +24,7 @@ use Rattle.step_tables.specs.Lines.{line_of}
 use Rattle.step_tables.specs.ClientMoves.{Client}
 use Rattle.world_tables.specs.Faults.{is_fault_answer}
 use Rattle.world_tables.specs.Passed.{first_part}
-use Rattle.world_tables.specs.World.{World as AWorld, Hosted, Lucks, WorldStep, no_lucks, schema_at, hosted_at, client_at, is_cut, is_fault}
+use Rattle.world_tables.specs.World.{World as AWorld, Hosted, Lucks, WorldStep, no_lucks, owner_of, schema_at, hosted_at, client_at, is_cut, is_fault}
 use Rattle.wire_tables.specs.Wire.{PartPacket, Wire, WireStep, spread, still, lines_of}
 use Rattle.node_steps.specs.declared.fault.WorldFault.{WorldFault}
 use Rattle.node_steps.specs.declared.fault.WorldFault.TheVariants.{Memory, Depot, Limit as LimitPassed}
@@ -153,10 +154,10 @@ module _ {D : Type 0} (state : D → DiskState) (images : D → ℕ → List ℕ
       → AreLeftOver state images w first mid.store.tables new.store.tables → AreLeftOver state images w first old.store.tables new.store.tables
   left_then old mid new first h k a b = record {
     rows = λ table hosted before after at made was is.
-        let m = between state images (schema_at w table) table hosted (tree.get nat_cmp mid.store.tables table)
-        (subst (λ (o : Option Hosted). HostedThere state (schema_at w table) table o (tree.get nat_cmp mid.store.tables table)) at (k.store.tables.there table)) in
+        let m = between state images (owner_of w table) (schema_at w table) table hosted (tree.get nat_cmp mid.store.tables table)
+        (subst (λ (o : Option Hosted). HostedThere state (owner_of w table) (schema_at w table) table o (tree.get nat_cmp mid.store.tables table)) at (k.store.tables.there table)) in
         let it = m.0 in
-        let f = found state w old.store.numbers old.store.tables table before h.store.tables (sym was) in
+        let f = found state w old.store.tables table before h.store.tables (sym was) in
         let schemas : Some before.node.schema ≡ Some it.node.schema = sym f.2.schema ∙ m.2.schema in
         let schema : it.node.schema ≡ before.node.schema = cc in
         rows_then (λ x. behind state x) (λ x. images (inner_of x)) before.node.devs it.node.devs after.node.devs (HasSome hosted before.node.schema)
@@ -256,7 +257,7 @@ module _ {D : Type 0} (state : D → DiskState) (images : D → ℕ → List ℕ
     clients = λ c. ap (λ (w : AWorld). is_some (client_at w c)) world;
     counted = record { rose = λ is. absurd (let bad : true ≡ false = sym is ∙ fine in cc); same = λ is. refl };
     rows = subst (λ (w : AWorld). RowsOver state images w kept.world new.nodes new.nodes) world (record {
-      event = events.Store 0;
+      event = events.Work (nodes.Gate 0);
       lucks = no_lucks;
       behind = refl;
       left = over_first state images kept.world kept.world new.nodes.store.tables new.nodes.store.tables (none_left state images only_now kept.world new.nodes.store h.nodes.store);

@@ -1,6 +1,6 @@
 -- A part that comes to a node which has to be read first: what was read, and what comes then, or how the node fell.
-use Rattle.std.proofs.Common.{◌≡◌, inr, ℕ, Bool, true, false, ◌∷◌, [], List, length, map, Option, Some, None, Result, refl, sym, ◌∙◌, ap, subst}
-use Rattle.std.specs.Prelude.{IfOk, IfErr, option_map, slice_get}
+use Rattle.std.proofs.Common.{◌≡◌, inl, inr, ℕ, Bool, true, false, ◌∷◌, [], List, length, map, Option, Some, None, Result, refl, sym, ◌∙◌, ap, subst}
+use Rattle.std.specs.Prelude.{◌==◌, ◌&&◌, IfOk, IfErr, option_map, slice_get}
 use Rattle.disk_trait.specs.Calls.{DiskState}
 use Rattle.disk_trait.specs.Image.{IsImage}
 use Rattle.stab_base.specs.declared.node.Node.{Node}
@@ -13,30 +13,28 @@ use Rattle.step_tables.specs.Facts.{AnswerLine}
 use Rattle.step_tables.specs.Lines.{line_of}
 use Rattle.step_tables.specs.Messages as messages
 use Rattle.world_tables.specs.Ready.{is_table_ready}
-use Rattle.world_tables.specs.World.{World as AWorld, Moved, owner, the_store, client_at, answering, failing, store_falls, client_falls, no_lucks}
+use Rattle.world_tables.specs.World.{World as AWorld, Moved, owner_of, client_at, answering, failing, store_falls, client_falls, no_lucks}
 use Rattle.message_parts.specs.Parts.{part_of}
 use Rattle.part_network.specs.Packets.{part_in, part_with}
 use Rattle.journal_host.specs.Calls.{has_table}
 use Rattle.wire_tables.specs.Wire.{PartPacket, Wire, part_table, any_of, spread, delivered, wire_step}
 use Rattle.wire_laws.specs.Carried.{IsFallen, IsFallenStore, IsFallenClient, TakesNothing}
-use Rattle.wire_laws.proofs.Carried.{one_store}
 use Rattle.part_store.specs.declared.view.RowView.{RowView}
 use Rattle.node_steps.specs.declared.fault.WorldFault.{WorldFault}
 use Rattle.node_steps.specs.declared.told.Told.{Told}
 use Rattle.node_steps.specs.declared.world.World.{World as Nodes}
-use Rattle.node_steps.specs.Places.{IsPlace}
 use Rattle.node_steps.specs.Reads.{HasFound, HasFallen}
 use Rattle.wire_steps.specs.declared.world.World.{World}
 use Rattle.wire_steps.specs.Reached.{IsReached}
 use Rattle.wire_steps.specs.Holds.{Holds, HoldsMemory}
 use Rattle.wire_steps.specs.Calls.{Comes, Ends, IsToCarry, bring_step}
-use Rattle.wire_steps.specs.Delivering.{IsSentPart, IsBrought, IsOfTable, IsSeenOf, IsViewFor, IsOfClient, IsOpenedAt, delivery}
+use Rattle.wire_steps.specs.Delivering.{IsSentPart, IsBrought, IsOfTable, IsSeenOf, IsViewFor, IsOfClient, IsOpenedAt, delivery, takes_at}
 use Rattle.wire_steps.specs.Sending.{IsToTell, IsTold, IsSendFault, IsOverFault}
 use Rattle.wire_steps.specs.Views.{HasSeen, HasLost}
 use Rattle.wire_steps.proofs.Answered.{told_comes, told_ends, seen_holds, comes_then, ends_then, comes_as, ends_as, still_comes}
 use Rattle.wire_steps.proofs.Seen.{left_alone, found_seen, fall_lost}
-use Rattle.wire_steps.proofs.Viewed.{ready_client, opened_there, not_opened}
-use Rattle.wire_steps.proofs.Delivered.{failed, wire_reached, is_sent, untaken_carry, untaken_is, fallen_store, fallen_client, store_fell_memory, client_fell_memory, lost_tells, lost_behind}
+use Rattle.wire_steps.proofs.Viewed.{ready_client, takes_both, opened_there, not_opened}
+use Rattle.wire_steps.proofs.Delivered.{failed, wire_reached, untaken_carry, untaken_is, fallen_store, fallen_client, store_fell_memory, client_fell_memory, lost_tells, lost_behind}
 
 -- ---- a node that falls where it is read
 
@@ -58,10 +56,10 @@ module _ {D : Type 0} (state : D → DiskState) (images : D → ℕ → List ℕ
 
 -- ---- at a table
 
-module _ {D : Type 0} (state : D → DiskState) (images : D → ℕ → List ℕ → Type 0) (old mid : World D) (from : Node) (table : ℕ) (part : Message)
-    (x : IsOfTable state old from table part) where
+module _ {D : Type 0} (state : D → DiskState) (images : D → ℕ → List ℕ → Type 0) (old mid : World D) (store : ℕ) (from : Node) (table : ℕ) (part : Message)
+    (x : IsOfTable state old store from table part) where
   module _ (view : RowView) (seen : HasSeen state images x.brought.v (IsViewFor x.brought.v table x.brought.p.part) old mid view) where
-    abbrev pub seen_of : IsSeenOf state mid from table view part
+    abbrev pub seen_of : IsSeenOf state mid store from table view part
     seen_of = record {
       of_table = record {
         brought = record {
@@ -72,7 +70,7 @@ module _ {D : Type 0} (state : D → DiskState) (images : D → ℕ → List ℕ
           part_is = x.brought.part_is;
         };
         table_is = x.table_is;
-        ready = x.ready;
+        takes = x.takes;
       };
       view = seen.found;
     }
@@ -84,27 +82,37 @@ module _ {D : Type 0} (state : D → DiskState) (images : D → ℕ → List ℕ
       pub seen_ends : Ends state images x.brought.v (delivery x.brought.v x.brought.sent) result mid new → Ends state images x.brought.v (delivery x.brought.v x.brought.sent) result old new
       seen_ends k = ends_then state images x.brought.v (IsViewFor x.brought.v table x.brought.p.part) old mid view x.brought.held seen (delivery x.brought.v x.brought.sent) new result k
 
-  pub store_ready : is_table_ready x.brought.v.world (part_table x.brought.p.part) ≡ true
-  store_ready = subst (λ (t : ℕ). is_table_ready x.brought.v.world t ≡ true) x.table_is x.ready
+  pub takes_there : takes_at x.brought.v.world store (part_table x.brought.p.part) ≡ true
+  takes_there = subst (λ (t : ℕ). takes_at x.brought.v.world store t ≡ true) x.table_is x.takes
+
+  pub store_ready : is_table_ready x.brought.v.world table ≡ true
+  store_ready = (takes_both x.brought.v.world store table x.takes).1
 
   abbrev pub store_fell : IsFallenStore x.brought.v x.brought.sent.number failed (part_table x.brought.p.part)
-  store_fell = fallen_store x.brought.v from x.brought.p x.brought.sent store_ready
+  store_fell = fallen_store x.brought.v store from x.brought.p x.brought.sent takes_there
 
-  pub store_memory : HoldsMemory (spread store_fell.fallen.kept (answering facts.Done (failing (store_falls owner x.brought.v.world)))).wire old.gathered old.arriving
-  store_memory = store_fell_memory state x.brought.v old x.brought.held x.brought.sent.number (part_table x.brought.p.part) store_fell
+  abbrev pub falls_there : Moved
+  falls_there = store_falls (owner_of x.brought.v.world (part_table x.brought.p.part)) x.brought.v.world
 
-  module _ (told : Told) (lost : HasLost state images x.brought.v (store_falls owner x.brought.v.world) old mid told) where
+  pub store_memory : HoldsMemory (spread store_fell.fallen.kept (answering facts.Done (failing falls_there))).wire old.gathered old.arriving
+  store_memory = store_fell_memory state x.brought.v old x.brought.held x.brought.sent.number (part_table x.brought.p.part)
+      (takes_both x.brought.v.world store (part_table x.brought.p.part) takes_there).1 store_fell
+
+  module _ (told : Told) (lost : HasLost state images x.brought.v (store_falls (owner_of x.brought.v.world table) x.brought.v.world) old mid told) where
+    pub lost_there : HasLost state images x.brought.v falls_there old mid told
+    lost_there = subst (λ (t : ℕ). HasLost state images x.brought.v (store_falls (owner_of x.brought.v.world t) x.brought.v.world) old mid told) x.table_is lost
+
     abbrev pub table_tells : IsToTell state mid told
-    table_tells = fall_tells state images x.brought.v from the_store x.brought.p x.brought.sent (store_falls owner x.brought.v.world) store_fell.fallen old mid told x.brought.held lost store_memory
+    table_tells = fall_tells state images x.brought.v from (nodes.Store store) x.brought.p x.brought.sent falls_there store_fell.fallen old mid told x.brought.held lost_there store_memory
 
     module _ (new : World D) (same : new.nodes ≡ mid.nodes) (result : Result (List TextLine) WorldFault) where
       pub table_comes : IfOk result (λ lines. IsTold state table_tells.kept table_tells.s lines new) → Comes state images x.brought.v (delivery x.brought.v x.brought.sent) result old new
-      table_comes t = fall_comes state images x.brought.v from the_store x.brought.p x.brought.sent (store_falls owner x.brought.v.world) store_fell.fallen old mid told x.brought.held lost
+      table_comes t = fall_comes state images x.brought.v from (nodes.Store store) x.brought.p x.brought.sent falls_there store_fell.fallen old mid told x.brought.held lost_there
           store_memory new same result t
 
       pub table_ends : IfErr result (IsOverFault (spread table_tells.kept table_tells.s).wire.packets) → IfErr result IsSendFault
           → Ends state images x.brought.v (delivery x.brought.v x.brought.sent) result old new
-      table_ends over only = fall_ends state images x.brought.v from the_store x.brought.p x.brought.sent (store_falls owner x.brought.v.world) store_fell.fallen old mid told x.brought.held lost
+      table_ends over only = fall_ends state images x.brought.v from (nodes.Store store) x.brought.p x.brought.sent falls_there store_fell.fallen old mid told x.brought.held lost_there
           store_memory new same result over only
 
 -- ---- at a client
@@ -165,10 +173,6 @@ module _ {D : Type 0} (state : D → DiskState) (world : World D) (from to : Nod
     part_is = x.part_is;
   }
 
-  -- there is one Store
-  pub store_number : (number : ℕ) → to ≡ nodes.Store number → number ≡ owner
-  store_number number is = one_store x.v x.sent.number x.p (is_sent x.v from to x.p x.sent) number (x.sent.to_is ∙ is)
-
 -- ---- a node that takes nothing of the table: whichever message it is handed, its delivery is that of the part
 
 module _ {D : Type 0} (state : D → DiskState) (world : World D) (from to : Node) (part : Message) (x : IsBrought state world from to part) (table : ℕ) (table_is : table ≡ part_table x.p.part)
@@ -179,8 +183,8 @@ module _ {D : Type 0} (state : D → DiskState) (world : World D) (from to : Nod
   pub any_is : m ≡ any_of (part_table x.p.part)
   any_is = is ∙ ap any_of table_is
 
-  abbrev pub idle_carry : IsPlace to → IsToCarry state world from to m
-  idle_carry place = untaken_carry state world x.v x.held from to x.p x.sent nothing_there m any_is place
+  abbrev pub idle_carry : IsToCarry state world from to m
+  idle_carry = untaken_carry state world x.v x.held from to x.p x.sent nothing_there m any_is
 
   module _ (images : D → ℕ → List ℕ → Type 0) (new : World D) (result : Result (List TextLine) WorldFault) where
     pub idle_comes : Comes state images x.v (bring_step x.v from to m) result world new → Comes state images x.v (delivery x.v x.sent) result world new
@@ -191,12 +195,21 @@ module _ {D : Type 0} (state : D → DiskState) (world : World D) (from to : Nod
     idle_ends k = ends_as state images x.v x.v (delivery x.v x.sent) (bring_step x.v from to m) result world world new refl refl
         (λ lucks. untaken_is state world x.v x.held from to x.p x.sent nothing_there m any_is lucks) k
 
+-- a Store was asked whether it takes a part
+pub takes_so : (w : AWorld) (store table : ℕ) (takes : Bool) → takes ≡ takes_at w store table → takes ≡ true → takes_at w store table ≡ true
+takes_so w store table takes is so = sym is ∙ so
+
+-- a Store takes nothing of a table that it doesn't keep, or that takes no messages
+pub store_takes_nothing : (w : AWorld) (store table : ℕ) (takes : Bool) → takes ≡ takes_at w store table → takes ≡ false → TakesNothing w table (nodes.Store store)
+store_takes_nothing w store table takes is none = go (owner_of w table == store) refl (sym is ∙ none)
+  where
+    go : (b : Bool) → (owner_of w table == store) ≡ b → (b && is_table_ready w table) ≡ false → TakesNothing w table (nodes.Store store)
+    go true is ready = inl ready
+    go false is ready = inr is
+
 -- a gateway takes nothing
 pub gate_takes_nothing : (w : AWorld) (table : ℕ) (to : Node) (gate : ℕ) → to ≡ nodes.Gate gate → TakesNothing w table to
 gate_takes_nothing w table to gate is = subst (TakesNothing w table) (sym is) tt
-
-pub gate_is_place : (to : Node) (gate : ℕ) → to ≡ nodes.Gate gate → IsPlace to
-gate_is_place to gate is = subst IsPlace (sym is) tt
 
 -- ---- whether a client has the table opened
 

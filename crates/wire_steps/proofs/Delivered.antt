@@ -12,7 +12,7 @@ use Rattle.step_tables.specs.Messages.{Luck}
 use Rattle.step_tables.specs.Messages as messages
 use Rattle.step_tables.specs.ClientMoves.{Client, TableDisk, table_at, seen}
 use Rattle.world_tables.specs.Ready.{is_table_ready, is_client_ready}
-use Rattle.world_tables.specs.World.{Hosted, Moved, Lucks, no_lucks, owner, the_store}
+use Rattle.world_tables.specs.World.{Hosted, Moved, Lucks, no_lucks, owner_of}
 use Rattle.world_tables.specs.World.{hosted_at, client_at, carried, answering, failing, store_falls, client_falls}
 use Rattle.world_tables.specs.World.{first_luck}
 use Rattle.world_tables.specs.Passed.{first_part}
@@ -29,7 +29,6 @@ use Rattle.wire_laws.specs.Carried.{IsFallen, IsFallenStore, IsFallenClient}
 use Rattle.wire_laws.proofs.Carried.{reached_world, untaken_as, store_as, client_as, store_fails, client_fails}
 use Rattle.node_steps.specs.declared.told.Told.{Told}
 use Rattle.node_steps.specs.Faults.{AreTotals, tell_fault}
-use Rattle.node_steps.specs.Places.{IsPlace}
 use Rattle.node_steps.proofs.Rows.{over_first}
 use Rattle.wire_steps.specs.declared.world.World.{World}
 use Rattle.wire_steps.specs.Holds.{Holds, HoldsMemory}
@@ -37,9 +36,10 @@ use Rattle.wire_steps.specs.Reached.{IsReached}
 use Rattle.wire_steps.specs.Calls.{IsBehind, IsToCarry, IsToPull, bring_step, pull_step}
 use Rattle.wire_steps.specs.Sending.{IsToTell}
 use Rattle.wire_steps.specs.Views.{HasLost}
-use Rattle.wire_steps.specs.Delivering.{IsSentPart, delivery}
+use Rattle.wire_steps.specs.Delivering.{IsSentPart, delivery, takes_at}
 use Rattle.wire_steps.proofs.Handed.{IsHanded, handed_tells, handed_behind}
 use Rattle.wire_steps.proofs.Remembering.{memory_store_fell, memory_client_fell}
+use Rattle.wire_steps.proofs.Viewed.{owner_there, takes_both}
 
 -- ---- a part that was sent
 
@@ -83,8 +83,8 @@ module _ {D : Type 0} (state : D → DiskState) (world : World D) (v : Wire) (h 
   pub nothing_carried : IsCarriedAs v.world from to m
   nothing_carried = carried_between v from to p sent m (subst (IsCarriedAs v.world p.from p.to) (sym is) nothing_taken.carried)
 
-  abbrev pub untaken_carry : IsPlace to → IsToCarry state world from to m
-  untaken_carry place = record { kept = v; reached = sent_reached v from to p sent; held = h; carried = nothing_carried; place = place }
+  abbrev pub untaken_carry : IsToCarry state world from to m
+  untaken_carry = record { kept = v; reached = sent_reached v from to p sent; held = h; carried = nothing_carried }
 
   pub untaken_is : (lucks : Lucks) → delivery v sent lucks ≡ bring_step v from to m lucks
   untaken_is lucks =
@@ -94,7 +94,7 @@ module _ {D : Type 0} (state : D → DiskState) (world : World D) (v : Wire) (h 
 
 -- ---- a node that takes the part
 
-module _ (v : Wire) (from : Node) (p : PartPacket) (sent : IsSentPart v from the_store p) (ready : is_table_ready v.world (part_table p.part) ≡ true) (hosted : Hosted)
+module _ (v : Wire) (store : ℕ) (from : Node) (p : PartPacket) (sent : IsSentPart v from (nodes.Store store) p) (takes : takes_at v.world store (part_table p.part) ≡ true) (hosted : Hosted)
     (there : hosted_at v.world (part_table p.part) ≡ Some hosted) where
   abbrev pub gathered : StoreTaken
   gathered = parted_at v p hosted.store.disk.items
@@ -103,24 +103,24 @@ module _ (v : Wire) (from : Node) (p : PartPacket) (sent : IsSentPart v from the
   gathered_wire = with_gathered (part_table p.part) (parted_at v p hosted.store.disk.items).gatherings v
 
   pub at_table : IsAtStore v sent.number p hosted
-  at_table = store_as v sent.number p (is_sent v from the_store p sent) owner sent.to_is ready hosted there
+  at_table = let k = takes_both v.world store (part_table p.part) takes in
+      store_as v sent.number p (is_sent v from (nodes.Store store) p sent) (sent.to_is ∙ ap nodes.Store (sym k.0)) k.1 hosted there
 
   step_taken : (t : at_store.Taken) → (parted_at v p hosted.store.disk.items).taken ≡ t → (lucks : Lucks) → delivery v sent lucks ≡ store_taken v p lucks (record gathered { taken = t })
   step_taken t is lucks = at_table.step_is lucks ∙ ap (λ (x : at_store.Taken). store_taken v p lucks (record gathered { taken = x })) is
 
   module _ {D : Type 0} (state : D → DiskState) (world : World D) (h : Holds state (with_gathered (part_table p.part) (parted_at v p hosted.store.disk.items).gatherings v) world)
       (m : messages.Message) (is : at_store.Whole m ≡ (parted_at v p hosted.store.disk.items).taken) where
-    abbrev pub store_carry : IsToCarry state world from the_store m
+    abbrev pub store_carry : IsToCarry state world from (nodes.Store store) m
     store_carry = record {
       kept = gathered_wire;
-      reached = sent_reached v from the_store p sent;
+      reached = sent_reached v from (nodes.Store store) p sent;
       held = h;
-      carried = carried_between v from the_store p sent m (at_table.whole m (sym is));
-      place = refl;
+      carried = carried_between v from (nodes.Store store) p sent m (at_table.whole m (sym is));
     }
 
-    pub store_carries : (lucks : Lucks) → delivery v sent lucks ≡ bring_step gathered_wire from the_store m lucks
-    store_carries lucks = step_taken (at_store.Whole m) (sym is) lucks ∙ step_between v from the_store p sent gathered_wire m lucks
+    pub store_carries : (lucks : Lucks) → delivery v sent lucks ≡ bring_step gathered_wire from (nodes.Store store) m lucks
+    store_carries lucks = step_taken (at_store.Whole m) (sym is) lucks ∙ step_between v from (nodes.Store store) p sent gathered_wire m lucks
 
   pub store_waits : at_store.Waits ≡ (parted_at v p hosted.store.disk.items).taken → delivery v sent no_lucks ≡ still gathered_wire facts.Done
   store_waits is = step_taken at_store.Waits (sym is) no_lucks
@@ -147,7 +147,6 @@ module _ (v : Wire) (c : ℕ) (from : Node) (p : PartPacket) (sent : IsSentPart 
         reached = sent_reached v from (nodes.Client c) p sent;
         held = h;
         carried = carried_between v from (nodes.Client c) p sent m (at_opened.whole m (sym is));
-        place = tt;
       }
 
       pub client_carries : (lucks : Lucks) → delivery v sent lucks ≡ bring_step arrived_wire from (nodes.Client c) m lucks
@@ -199,17 +198,20 @@ module _ {D : Type 0} (state : D → DiskState) (images : D → ℕ → List ℕ
   pub lost_behind : fair.IsReached v.world → IsBehind state images v (spread k.kept (answering facts.Done (failing falls))) old.nodes mid.nodes
   lost_behind r = handed_behind state images v.world r (answering facts.Done (failing falls)) old.nodes mid.nodes told lost_handed v k.kept refl
 
-pub fallen_store : (v : Wire) (from : Node) (p : PartPacket) (sent : IsSentPart v from the_store p) → is_table_ready v.world (part_table p.part) ≡ true
+pub fallen_store : (v : Wire) (store : ℕ) (from : Node) (p : PartPacket) (sent : IsSentPart v from (nodes.Store store) p) → takes_at v.world store (part_table p.part) ≡ true
     → IsFallenStore v sent.number failed (part_table p.part)
-fallen_store v from p sent ready = store_fails v sent.number p (is_sent v from the_store p sent) failed owner sent.to_is ready fails
+fallen_store v store from p sent takes =
+    let k = takes_both v.world store (part_table p.part) takes in
+    store_fails v sent.number p (is_sent v from (nodes.Store store) p sent) failed (sent.to_is ∙ ap nodes.Store (sym k.0)) k.1 fails
 
 pub fallen_client : (v : Wire) (c : ℕ) (from : Node) (p : PartPacket) (sent : IsSentPart v from (nodes.Client c) p) → is_client_ready v.world c ≡ true → IsFallenClient v sent.number failed c
 fallen_client v c from p sent ready = client_fails v sent.number p (is_sent v from (nodes.Client c) p sent) failed c sent.to_is ready fails
 
-pub store_fell_memory : {D : Type 0} (state : D → DiskState) (v : Wire) (world : World D) → Holds state v world → (number table : ℕ) (k : IsFallenStore v number failed table)
-    → HoldsMemory (spread k.fallen.kept (answering facts.Done (failing (store_falls owner v.world)))).wire world.gathered world.arriving
-store_fell_memory state v world h number table k =
-    memory_store_fell v world.gathered world.arriving h.memory k.fallen.kept _ k.arriving
+pub store_fell_memory : {D : Type 0} (state : D → DiskState) (v : Wire) (world : World D) → Holds state v world → (number table : ℕ) → is_table_ready v.world table ≡ true
+    → (k : IsFallenStore v number failed table)
+    → HoldsMemory (spread k.fallen.kept (answering facts.Done (failing (store_falls (owner_of v.world table) v.world)))).wire world.gathered world.arriving
+store_fell_memory state v world h number table ready k =
+    memory_store_fell v world.gathered world.arriving h.memory k.fallen.kept _ table (owner_there v.world table ready) k.arriving k.others
 
 pub client_fell_memory : {D : Type 0} (state : D → DiskState) (v : Wire) (world : World D) → Holds state v world → (number c : ℕ) (k : IsFallenClient v number failed c)
     → HoldsMemory (spread k.fallen.kept (answering facts.Done (failing (client_falls c v.world)))).wire world.gathered world.arriving

@@ -17,7 +17,7 @@ use Rattle.step_tables.specs.Messages as messages
 use Rattle.step_tables.specs.Store.{Stored}
 use Rattle.step_tables.specs.ClientMoves.{TableDisk, table_at, seen}
 use Rattle.world_tables.specs.Ready.{is_table_ready}
-use Rattle.world_tables.specs.World.{Hosted, the_store, schema_at, chunk_in, scheme_in, hosted_at}
+use Rattle.world_tables.specs.World.{Hosted, schema_at, chunk_in, scheme_in, hosted_at}
 use Rattle.message_parts.specs.Parts.{part_of}
 use Rattle.part_tables.specs.Parts.{Part}
 use Rattle.part_tables.specs.StoreParts as at_store
@@ -41,37 +41,37 @@ use Rattle.wire_tables.specs.Wire.{PartPacket, Wire, part_table, gathered_at, ar
 use Rattle.node_steps.specs.declared.fault.WorldFault.{WorldFault}
 use Rattle.wire_steps.specs.declared.world.World.{World}
 use Rattle.wire_steps.specs.Calls.{Comes, Ends, IsToCarry, bring_step, IsToPull, pull_step}
-use Rattle.wire_steps.specs.Delivering.{IsViewFor, IsSeenOf, IsGatheredThere, IsGatheredAs, IsOpenedAt, IsHeldOfPart, IsKeptThere, IsArrivedAs, delivery}
+use Rattle.wire_steps.specs.Delivering.{IsViewFor, IsSeenOf, IsGatheredThere, IsGatheredAs, IsOpenedAt, IsHeldOfPart, IsKeptThere, IsArrivedAs, delivery, takes_at}
 use Rattle.wire_steps.specs.Holds.{Holds, HasGatheredThere, KeepsThere}
 use Rattle.wire_steps.proofs.Answered.{comes_as, ends_as, still_comes}
 use Rattle.wire_steps.proofs.Delivered.{part_framed, gathered_wire, store_carry, store_carries, store_waits, arrived_wire, client_carry, client_carries, client_pull, client_tears, client_waits}
 use Rattle.wire_steps.proofs.Remembering.{memory_gathered, memory_arrived}
-use Rattle.wire_steps.proofs.Viewed.{ready_table, table_up, client_up}
+use Rattle.wire_steps.proofs.Viewed.{ready_table, takes_both, table_up, client_up}
 
 -- ---- what a table has gathered
 
-module _ {D : Type 0} (state : D → DiskState) (world : World D) (from : Node) (told : StoreTook) (x : IsGatheredAs state world from told) where
+module _ {D : Type 0} (state : D → DiskState) (world : World D) (store : ℕ) (from : Node) (told : StoreTook) (x : IsGatheredAs state world store from told) where
   abbrev pub gathered_in : Wire
-  gathered_in = gathered_wire x.v from x.p x.sent x.ready x.hosted x.there
+  gathered_in = gathered_wire x.v store from x.p x.sent x.takes x.hosted x.there
 
   module _ (m : messages.Message) (is : at_store.Whole m ≡ store_calls.taken_of told) where
-    abbrev pub gathered_carry : IsToCarry state world from the_store m
-    gathered_carry = store_carry x.v from x.p x.sent x.ready x.hosted x.there state world x.held m (is ∙ x.taken)
+    abbrev pub gathered_carry : IsToCarry state world from (nodes.Store store) m
+    gathered_carry = store_carry x.v store from x.p x.sent x.takes x.hosted x.there state world x.held m (is ∙ x.taken)
 
     module _ (images : D → ℕ → List ℕ → Type 0) (result : Result (List TextLine) WorldFault) (new : World D) where
-      pub gathered_comes : Comes state images gathered_in (bring_step gathered_in from the_store m) result world new → Comes state images x.v (delivery x.v x.sent) result world new
-      gathered_comes k = comes_as state images x.v gathered_in (delivery x.v x.sent) (bring_step gathered_in from the_store m) result world world new refl refl refl
-          (λ lucks. store_carries x.v from x.p x.sent x.ready x.hosted x.there state world x.held m (is ∙ x.taken) lucks) k
+      pub gathered_comes : Comes state images gathered_in (bring_step gathered_in from (nodes.Store store) m) result world new → Comes state images x.v (delivery x.v x.sent) result world new
+      gathered_comes k = comes_as state images x.v gathered_in (delivery x.v x.sent) (bring_step gathered_in from (nodes.Store store) m) result world world new refl refl refl
+          (λ lucks. store_carries x.v store from x.p x.sent x.takes x.hosted x.there state world x.held m (is ∙ x.taken) lucks) k
 
-      pub gathered_ends : Ends state images gathered_in (bring_step gathered_in from the_store m) result world new → Ends state images x.v (delivery x.v x.sent) result world new
-      gathered_ends k = ends_as state images x.v gathered_in (delivery x.v x.sent) (bring_step gathered_in from the_store m) result world world new refl refl
-          (λ lucks. store_carries x.v from x.p x.sent x.ready x.hosted x.there state world x.held m (is ∙ x.taken) lucks) k
+      pub gathered_ends : Ends state images gathered_in (bring_step gathered_in from (nodes.Store store) m) result world new → Ends state images x.v (delivery x.v x.sent) result world new
+      gathered_ends k = ends_as state images x.v gathered_in (delivery x.v x.sent) (bring_step gathered_in from (nodes.Store store) m) result world world new refl refl
+          (λ lucks. store_carries x.v store from x.p x.sent x.takes x.hosted x.there state world x.held m (is ∙ x.taken) lucks) k
 
   pub gathered_waits : (images : D → ℕ → List ℕ → Type 0) → ((disk : D) (image : List ℕ) → images disk (state disk).moment image → IsImage (state disk).pending image)
       → at_store.Waits ≡ store_calls.taken_of told → (result : Result (List TextLine) WorldFault) → IfOk result (λ lines. map line_of lines ≡ AnswerLine facts.Done ∷ [])
       → Comes state images x.v (delivery x.v x.sent) result world world
   gathered_waits images only_now is result lines = still_comes state images only_now x.v gathered_in facts.Done refl world world refl refl refl x.held (delivery x.v x.sent)
-      (store_waits x.v from x.p x.sent x.ready x.hosted x.there (is ∙ x.taken)) result lines
+      (store_waits x.v store from x.p x.sent x.takes x.hosted x.there (is ∙ x.taken)) result lines
 
 -- a part is taken, and what is kept of it is in memory
 pub record Gathers {D : Type 0} (state : D → DiskState) (world : World D) (v : Wire) (p : PartPacket) (part : Message) (view : RowView) (scheme : Scheme) (chunk : ℕ) (told : StoreTook)
@@ -121,10 +121,10 @@ module _ {D : Type 0} (state : D → DiskState) (world : World D) (v : Wire) (p 
   pub came_of : (t : ℕ) → t ≡ part_table p.part → Gathers state world v p part view scheme chunk told after t → Came state (record world { gathered = after }) v p told
   came_of t e k = came (subst (λ (n : ℕ). Gathers state world v p part view scheme chunk told after n) e k)
 
-module _ {D : Type 0} (state : D → DiskState) (world : World D) (from : Node) (table : ℕ) (view : RowView) (part : Message) (x : IsSeenOf state world from table view part) where
+module _ {D : Type 0} (state : D → DiskState) (world : World D) (store : ℕ) (from : Node) (table : ℕ) (view : RowView) (part : Message) (x : IsSeenOf state world store from table view part) where
   pub seen_places : store_calls.may_gather (part_of part) ≡ true
   seen_places = let b = x.of_table.brought in
-      ap store_calls.may_gather b.part_is ∙ gathered_at_store b.p.part (part_framed state b.v world b.held from the_store b.p b.sent)
+      ap store_calls.may_gather b.part_is ∙ gathered_at_store b.p.part (part_framed state b.v world b.held from (nodes.Store store) b.p b.sent)
 
   module _ (scheme : Scheme) (chunk : ℕ) (told : StoreTook) (after : tree.BTreeMap ℕ Gatherings) (scheme_is : scheme ≡ scheme_in (schema_at x.of_table.brought.v.world table))
       (chunk_is : chunk ≡ chunk_in (schema_at x.of_table.brought.v.world table))
@@ -135,14 +135,14 @@ module _ {D : Type 0} (state : D → DiskState) (world : World D) (from : Node) 
     pub it_came : Came state (record world { gathered = after }) x.of_table.brought.v x.of_table.brought.p told
     it_came = let b = x.of_table.brought in
         came_of state world b.v b.p part view scheme chunk told after b.held b.part_is table x.of_table.table_is
-        (record { ready = x.of_table.ready; scheme_is = scheme_is; chunk_is = chunk_is; viewed = x.view; taken = taken; others = others })
+        (record { ready = (takes_both b.v.world store table x.of_table.takes).1; scheme_is = scheme_is; chunk_is = chunk_is; viewed = x.view; taken = taken; others = others })
 
-    abbrev pub seen_gathers : IsGatheredAs state (record world { gathered = after }) from told
+    abbrev pub seen_gathers : IsGatheredAs state (record world { gathered = after }) store from told
     seen_gathers = record {
       v = x.of_table.brought.v;
       p = x.of_table.brought.p;
       sent = x.of_table.brought.sent;
-      ready = it_came.ready;
+      takes = subst (λ (t : ℕ). takes_at x.of_table.brought.v.world store t ≡ true) x.of_table.table_is x.of_table.takes;
       hosted = it_came.hosted;
       there = it_came.there;
       taken = it_came.taken;

@@ -33,7 +33,7 @@ use Rattle.world_tables.specs.World.{World as AWorld, Packet, Hosted, Outbox, Wo
 use Rattle.world_tables.specs.World.{client_at, step}
 use Rattle.name_laws.proofs.Moves as moves
 use Rattle.name_laws.proofs.Moves.{IsFine}
-use Rattle.name_laws.proofs.Steps.{Stepped, holds_by, schemas_by, step_stepped}
+use Rattle.name_laws.proofs.Steps.{Stepped, stores_by, holds_by, schemas_by, step_stepped}
 use Rattle.fair_laws.specs.Fair.{IsFitContent}
 use Rattle.fair_laws.specs.Reached.{IsBuilt}
 use Rattle.fair_laws.specs.Reached as fair
@@ -44,7 +44,7 @@ use Rattle.wire_tables.specs.Wire.{PartPacket, Wire, WireStep, lines_of, spread}
 use Rattle.wire_laws.specs.Carried.{IsFit, HaveSameTables, store_of}
 use Rattle.wire_laws.proofs.Founded.{ground}
 use Rattle.wire_laws.proofs.Ground.{IsGround}
-use Rattle.wire_laws.proofs.Keeping.{sends_or_declares}
+use Rattle.wire_laws.proofs.Keeping.{schemas_stay, sends_or_declares}
 use Rattle.node_steps.specs.declared.told.Told.{Told}
 use Rattle.node_steps.specs.declared.world.World.{World as Nodes}
 use Rattle.node_steps.specs.Calls as calls
@@ -83,12 +83,25 @@ reached_next w event lucks r built =
 pub reached_ground : (w : AWorld) → fair.IsReached w → IsGround w
 reached_ground w r = subst IsGround (sym r.is) (ground r.run r.built)
 
+-- a table that isn't there behind an event wasn't there
+pub hosted_stays : (w : AWorld) → fair.IsReached w → (event : Event) (lucks : Lucks) → IsBuilt event → (t : ℕ) → hosted_at (step w event lucks).world t ≡ None → hosted_at w t ≡ None
+hosted_stays w r event lucks built t none = go (hosted_at w t) refl
+  where
+    behind : IsGround (step w event lucks).world
+    behind = reached_ground (step w event lucks).world (reached_next w event lucks r built)
+
+    go : (o : Option Hosted) → hosted_at w t ≡ o → hosted_at w t ≡ None
+    go None at = at
+    go (Some hosted) at =
+        let d = (reached_ground w r).declared t hosted at in
+        absurd (let both : Some d.0 ≡ None = sym (schemas_stay w (reached_ground w r) event lucks t d.0 d.1) ∙ behind.unhosted t none in cc)
+
 flat_packets : (outs : List Outbox) → moves.packets_in outs ≡ packets_in outs
 flat_packets [] = refl
 flat_packets (out ∷ outs) = ap (λ (ps : List Packet). out.packets ++ ps) (flat_packets outs)
 
 module _ (w : AWorld) (r : fair.IsReached w) (event : Event) (lucks : Lucks) where
-  stepped_so : Stepped w (holds_by w event lucks) (schemas_by w event lucks) (step w event lucks)
+  stepped_so : Stepped w (stores_by w event) (holds_by w event lucks) (schemas_by w event lucks) (step w event lucks)
   stepped_so = step_stepped w event lucks (reached_ground w r).fine
 
   pub step_sent : (step w event lucks).world.packets ≡ w.packets ++ packets_in (step w event lucks).outs

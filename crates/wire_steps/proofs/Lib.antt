@@ -15,3 +15,4 @@ pub mod Coming
 pub mod Started
 pub mod Stepped
 pub mod Maps
+pub mod Sounds

@@ -15,7 +15,7 @@ use Rattle.step_tables.specs.StoreMoves as store
 use Rattle.step_tables.specs.StoreMoves.{StoreMove, StoreTask}
 use Rattle.step_tables.specs.ClientMoves as client
 use Rattle.step_tables.specs.ClientMoves.{Client, ClientTask, ClientMove, Shape, no_shape}
-use Rattle.world_tables.specs.World.{World, Packet, Hosted, Moved, WorldStep, Lucks, owner, the_store, hosted_at}
+use Rattle.world_tables.specs.World.{World, Packet, Hosted, Moved, WorldStep, Lucks, owner_of, hosted_at, hosted_by}
 use Rattle.world_tables.specs.World.{client_at, is_down, has_node, without_node, still, and_then, and_unless}
 use Rattle.world_tables.specs.World.{move_table, move_client, first_luck, other_lucks, client_works, client_tasks}
 use Rattle.world_tables.specs.World.{client_until_idle, client_follows, client_follows_from, gets_tasks, client_writes}
@@ -38,6 +38,7 @@ StartsNoClient other = Unit {0}
 
 -- an event that starts no node, and declares none
 abbrev pub IsPlain : Event → Type 0
+IsPlain (events.Store number) = ⊥
 IsPlain (events.Table table schema) = ⊥
 IsPlain (events.Client c gate tables) = ⊥
 IsPlain (events.Start node) = ⊥
@@ -91,8 +92,8 @@ module _ (R : World → World → Type 0) (here : (w : World) → R w w) (later 
   table_followed : (table : ℕ) (lucks : List Luck) (w : World) → R w (table_follows table lucks w).world
   table_followed table lucks w = go (is_at_work w table)
     where
-      go : (busy : Bool) → R w (if busy then store_follows owner lucks w else still w).world
-      go true = followed owner lucks w
+      go : (busy : Bool) → R w (if busy then store_follows (owner_of w table) lucks w else still w).world
+      go true = followed (owner_of w table) lucks w
       go false = here w
 
   table_crashed : (luck : Luck) (o : Option ℕ) (w : World) → R w (table_crashes luck o w).world
@@ -218,8 +219,8 @@ module _ (R : World → World → Type 0) (here : (w : World) → R w w) (later 
       first = of_table w table (store.Take from m) tt
 
       reads : (luck : Luck) → Steps w (take_read w table hosted (store.Take from m) (other_lucks lucks) luck)
-      reads messages.FailedBefore = falls w owner
-      reads messages.FailedAfter = falls w owner
+      reads messages.FailedBefore = falls w (owner_of w table)
+      reads messages.FailedAfter = falls w (owner_of w table)
       reads messages.Done = later w x (table_follows table (other_lucks lucks) x).world first (table_followed table (other_lucks lucks) x)
 
       go : (o : Option (List StoreTask)) → Steps w (take_at w table hosted (store.Take from m) lucks o)
@@ -233,7 +234,7 @@ module _ (R : World → World → Type 0) (here : (w : World) → R w w) (later 
 
   pub carries : (w : World) (p : Packet) (shape : Shape) (lucks : List Luck) (to : Node) → Steps w (carried w p shape lucks to)
   carries w p shape lucks (nodes.Store number) =
-      by_down w (nodes.Store number) _ (taken w (table_of p.message) p.from p.message lucks (hosted_at w (table_of p.message)))
+      by_down w (nodes.Store number) _ (taken w (table_of p.message) p.from p.message lucks (hosted_by w number (table_of p.message)))
   carries w p shape lucks (nodes.Client c) = to_client w c p.message shape lucks (client_at w c) refl
   carries w p shape lucks (nodes.Gate gate) = here w
 
@@ -241,18 +242,18 @@ module _ (R : World → World → Type 0) (here : (w : World) → R w w) (later 
   delivers w shape lucks None = here w
   delivers w shape lucks (Some p) = carries w p shape lucks p.to
 
-  shows : (w : World) (row : List ℕ) (lucks : List Luck) (o : Option Hosted) → Steps w (store_shows w row lucks o)
-  shows w row lucks None = here w
-  shows w row lucks (Some hosted) = by_down w the_store _ (go (first_luck lucks))
+  shows : (w : World) (table : ℕ) (row : List ℕ) (lucks : List Luck) (o : Option Hosted) → Steps w (store_shows w table row lucks o)
+  shows w table row lucks None = here w
+  shows w table row lucks (Some hosted) = by_down w (nodes.Store (owner_of w table)) _ (go (first_luck lucks))
     where
-      go : (luck : Luck) → Steps w (row_read w hosted row luck)
+      go : (luck : Luck) → Steps w (row_read w table hosted row luck)
       go messages.Done = here w
-      go messages.FailedBefore = falls w owner
-      go messages.FailedAfter = falls w owner
+      go messages.FailedBefore = falls w (owner_of w table)
+      go messages.FailedAfter = falls w (owner_of w table)
 
   names : (w : World) (table : ℕ) (o : Option Hosted) → Steps w (chunk_names w table o)
   names w table None = here w
-  names w table (Some hosted) = by_down w the_store _ (here w)
+  names w table (Some hosted) = by_down w (nodes.Store (owner_of w table)) _ (here w)
 
   lists : (w : World) (table : ℕ) (o : Option Hosted) → Steps w (history_lines w table o)
   lists w table None = here w
@@ -282,7 +283,7 @@ module _ (R : World → World → Type 0) (here : (w : World) → R w w) (later 
   crashes w calls lucks (nodes.Gate gate) = here w
 
   pub stepped : (w : World) (event : Event) (lucks : Lucks) → IsPlain event → Steps w (step w event lucks)
-  stepped w (events.Store number) lucks plain = here w
+  stepped w (events.Store number) lucks plain = absurd plain
   stepped w (events.Table table schema) lucks plain = absurd plain
   stepped w (events.Client c gate tables) lucks plain = absurd plain
   stepped w (events.Write c table row x) lucks plain = called w c (client.Write table row x) lucks.shape lucks.calls tt
@@ -301,7 +302,7 @@ module _ (R : World → World → Type 0) (here : (w : World) → R w w) (later 
       all_resolved w c table by lucks.shapes (other_lucks lucks.calls) (call w c (client.ResolveAll table by) lucks.shape lucks.calls)
       (called w c (client.ResolveAll table by) lucks.shape lucks.calls tt)
   stepped w (events.Deliver packet) lucks plain = delivers w lucks.shape lucks.calls (slice_get w.packets packet)
-  stepped w (events.StoreShow table row) lucks plain = shows w row lucks.calls (hosted_at w table)
+  stepped w (events.StoreShow table row) lucks plain = shows w table row lucks.calls (hosted_at w table)
   stepped w (events.History table) lucks plain = lists w table (hosted_at w table)
   stepped w (events.Chunks table) lucks plain = names w table (hosted_at w table)
   stepped w (events.Hold node) lucks plain = by_down w node _ (of_nodes w (node ∷ w.holds) w.cuts)

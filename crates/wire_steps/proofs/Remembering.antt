@@ -11,7 +11,7 @@ use Rattle.std.specs.Map.{lookup}
 use Rattle.step_tables.specs.ClientMoves.{Client, no_shape}
 use Rattle.step_tables.specs.ClientMoves as client
 use Rattle.step_tables.specs.Messages as messages
-use Rattle.world_tables.specs.World.{World, Hosted, owner, hosted_at, client_at}
+use Rattle.world_tables.specs.World.{World, Hosted, owner_of, has_store, hosted_at, client_at}
 use Rattle.world_tables.specs.World.{store_falls, client_falls}
 use Rattle.world_laws.proofs.Looks.{look_cases}
 use Rattle.part_tables.specs.StoreParts.{Gathering}
@@ -25,7 +25,7 @@ use Rattle.wire_tables.specs.Wire.{PartPacket, Wire, or_no_gatherings, or_nothin
 use Rattle.wire_tables.specs.Wire.{with_arriving, is_hosted_up, is_client_up, remembered}
 use Rattle.wire_laws.proofs.Places.{lookup_some}
 use Rattle.wire_steps.specs.Holds.{HasGatheredThere, KeepsThere, HoldsMemory}
-use Rattle.wire_steps.proofs.Lasting.{AllDown, MayJoin, Grows, grows_last, falls_last, owner_falls, client_falls_down, client_last}
+use Rattle.wire_steps.proofs.Lasting.{MayJoin, Grows, grows_last, falls_last, owner_falls, client_falls_down, client_last}
 
 abbrev pub Gathered : Type 0
 Gathered = tree.BTreeMap ℕ Gatherings
@@ -161,17 +161,46 @@ module _ (v : Wire) (gathered : Gathered) (arriving : Arrivals) (m : HoldsMemory
           (λ e. other q e.0 ∙ no_client_on q (client_at x q) (g.clients q e.0) none)
           (look_cases v.arriving c a q)
 
-  -- ---- behind the start of the Store: it had gathered nothing, and has nothing
+  -- ---- behind the start of a Store, where no table that was down has gathered anything
 
-  pub memory_cleared : (x : World) (packets : List PartPacket) (none : Gathered) → AllDown v.world → ((t : ℕ) → tree.get nat_cmp none t ≡ None)
-      → x.clients ≡ v.world.clients → HoldsMemory (remembered (record v { world = x; packets = packets })) none arriving
-  memory_cleared x packets none downs cleared same = memory_is (record v { world = x; packets = packets }) none arriving
-      (λ t up. subst (λ (gs : List Gathering). HasGatheredThere gs (tree.get nat_cmp none t)) (sym (m.gathers_none t (downs t)))
-      (subst (λ (o : Option Gatherings). HasGatheredThere [] o) (sym (cleared t)) nothing_gathered))
+  pub memory_started : (x : World) (packets : List PartPacket) → ((t : ℕ) → is_hosted_up (hosted_at v.world t) ≡ false → tree.get nat_cmp gathered t ≡ None)
+      → ((t : ℕ) → hosted_at x t ≡ None → hosted_at v.world t ≡ None) → x.clients ≡ v.world.clients
+      → HoldsMemory (remembered (record v { world = x; packets = packets })) gathered arriving
+  memory_started x packets forgotten there same = memory_is (record v { world = x; packets = packets }) gathered arriving
+      (λ t up. gathers t (is_hosted_up (hosted_at v.world t)) refl)
+      (λ c up. m.arrives c (sym (ap is_client_up (at c)) ∙ up)) (λ t gone. m.no_table t (there t gone)) (λ c gone. m.no_client c (sym (at c) ∙ gone))
+    where
+      gathers : (t : ℕ) (b : Bool) → is_hosted_up (hosted_at v.world t) ≡ b → HasGatheredThere (gathered_at v t) (tree.get nat_cmp gathered t)
+      gathers t true is = m.gathers t is
+      gathers t false is = subst (λ (gs : List Gathering). HasGatheredThere gs (tree.get nat_cmp gathered t)) (sym (m.gathers_none t is))
+          (subst (λ (o : Option Gatherings). HasGatheredThere [] o) (sym (forgotten t is)) nothing_gathered)
+
+      at : (c : ℕ) → client_at x c ≡ client_at v.world c
+      at c = ap (λ (cs : List (ℕ × Client)). lookup (is_at (nat_cmp c)) cs) same
+
+  -- ---- behind a Store that joins: what was gathered is lost
+
+  pub memory_joined : (x : World) (packets : List PartPacket) (none : Gathered) → ((t : ℕ) → tree.get nat_cmp none t ≡ None) → x.clients ≡ v.world.clients
+      → HoldsMemory (remembered (record v { world = x; packets = packets; gathered = [] })) none arriving
+  memory_joined x packets none cleared same = memory_is (record v { world = x; packets = packets; gathered = [] }) none arriving
+      (λ t up. subst (λ (o : Option Gatherings). HasGatheredThere [] o) (sym (cleared t)) nothing_gathered)
       (λ c up. m.arrives c (sym (ap is_client_up (at c)) ∙ up)) (λ t gone. cleared t) (λ c gone. m.no_client c (sym (at c) ∙ gone))
     where
       at : (c : ℕ) → client_at x c ≡ client_at v.world c
       at c = ap (λ (cs : List (ℕ × Client)). lookup (is_at (nat_cmp c)) cs) same
+
+  -- what tables that are down have isn't looked at
+  pub memory_forgotten : (less : Gathered) → ((t : ℕ) → tree.get nat_cmp less t ≡ (if is_hosted_up (hosted_at v.world t) then tree.get nat_cmp gathered t else None))
+      → HoldsMemory v less arriving
+  memory_forgotten less at = record {
+    gathers = λ t up. subst (λ (o : Option Gatherings). HasGatheredThere (gathered_at v t) o)
+        (sym (at t ∙ ap (λ (b : Bool). if b then tree.get nat_cmp gathered t else None) up)) (m.gathers t up);
+    arrives = m.arrives;
+    gathers_none = m.gathers_none;
+    arrives_none = m.arrives_none;
+    no_table = λ t none. at t ∙ ap (λ (b : Bool). if b then tree.get nat_cmp gathered t else None) (ap is_hosted_up none);
+    no_client = m.no_client;
+  }
 
   -- ---- behind what comes to a table that is up, and to a client
 
@@ -223,17 +252,27 @@ module _ (v : Wire) (gathered : Gathered) (arriving : Arrivals) (m : HoldsMemory
 
   -- ---- behind a node that falls: what it had doesn't matter
 
-  pub memory_store_fell : (kept : Wire) (packets : List PartPacket) → kept.arriving ≡ v.arriving
-      → HoldsMemory (remembered (record kept { world = (store_falls owner v.world).world; packets = packets })) gathered arriving
-  memory_store_fell kept packets same =
-      let x : World = (store_falls owner v.world).world in
-      let g : Grows (λ q. ⊥) v.world x = grows_last (λ q. ⊥) v.world x (falls_last (λ q. ⊥) v.world owner) in
-      memory_is (record kept { world = x; packets = packets }) gathered arriving
-      (λ t up. absurd (true≢false (sym up ∙ owner_falls v.world t)))
+  -- of the Store that falls only this table's gatherings may have gone on
+  pub memory_store_fell : (kept : Wire) (packets : List PartPacket) (table : ℕ) → has_store v.world (owner_of v.world table) ≡ true → kept.arriving ≡ v.arriving
+      → ((t : ℕ) → t ≢ table → gathered_at kept t ≡ gathered_at v t)
+      → HoldsMemory (remembered (record kept { world = (store_falls (owner_of v.world table) v.world).world; packets = packets })) gathered arriving
+  memory_store_fell kept packets table declared same others = memory_is (record kept { world = x; packets = packets }) gathered arriving
+      (λ t up. by t up (table == t) refl)
       (λ c up. subst (λ (given : List (ℕ × arrivals.Arriving)). KeepsThere (or_nothing (lookup (is_at (nat_cmp c)) given)) (tree.get nat_cmp arriving c)) (sym same)
       (keeps_on c (client_at x c) (g.clients c (λ e. e)) up))
       (λ t none. no_table_on t (hosted_at x t) (g.tables t) none)
       (λ c none. no_client_on c (client_at x c) (g.clients c (λ e. e)) none)
+    where
+      x : World
+      x = (store_falls (owner_of v.world table) v.world).world
+
+      g : Grows (λ q. ⊥) v.world x
+      g = grows_last (λ q. ⊥) v.world x (falls_last (λ q. ⊥) v.world (owner_of v.world table))
+
+      by : (t : ℕ) → is_hosted_up (hosted_at x t) ≡ true → (b : Bool) → (table == t) ≡ b → HasGatheredThere (gathered_at kept t) (tree.get nat_cmp gathered t)
+      by t up true is = absurd (true≢false (sym up ∙ (ap (λ (n : ℕ). is_hosted_up (hosted_at x n)) (sym (eqb-true table t is)) ∙ owner_falls v.world table declared)))
+      by t up false is = subst (λ (gs : List Gathering). HasGatheredThere gs (tree.get nat_cmp gathered t)) (sym (others t (grind (arith, nat_tests, is))))
+          (gathers_on t (hosted_at x t) (g.tables t) up)
 
   pub memory_client_fell : (kept : Wire) (packets : List PartPacket) (c : ℕ) → kept.gathered ≡ v.gathered → ((d : ℕ) → d ≢ c → arriving_at kept d ≡ arriving_at v d)
       → HoldsMemory (remembered (record kept { world = (client_falls c v.world).world; packets = packets })) gathered arriving

@@ -1,5 +1,5 @@
 -- Packets and moves that are told and sent one after the other.
-use Rattle.std.proofs.Common.{◌≡◌, inl, inr, ℕ, suc, ◌+◌, ◌<◌, true, List, [], ◌∷◌, ◌++◌, length, map, Option, Some, None, refl, sym, ◌∙◌, ap, subst, arith, append-nil, append_assoc, unwrap_or}
+use Rattle.std.proofs.Common.{◌≡◌, inl, inr, ℕ, suc, ◌+◌, ◌<◌, true, List, [], ◌∷◌, ◌++◌, length, map, Option, refl, sym, ◌∙◌, ap, subst, arith, append-nil, append_assoc}
 use Rattle.std.proofs.lemmas.List.{length-append}
 use Rattle.stab_base.specs.declared.node.Node.{Node}
 use Rattle.table_model.specs.declared.line.TextLine.{TextLine}
@@ -7,8 +7,10 @@ use Rattle.step_tables.specs.Facts.{Line, FactLine}
 use Rattle.step_tables.specs.Lines.{line_of}
 use Rattle.step_tables.specs.Members.{Among}
 use Rattle.step_tables.specs.Messages.{table_of}
+use Rattle.step_tables.specs.Travels.{message_of}
+use Rattle.step_tables.specs.declared.message.Message.{Message}
 use Rattle.step_tables.proofs.Lists.{among_here, among_left, among_right}
-use Rattle.world_tables.specs.World.{World as AWorld, Packet, Outbox, schema_at, chunk_in, address, the_store}
+use Rattle.world_tables.specs.World.{World as AWorld, Packet, Outbox, schema_at, chunk_in, address}
 use Rattle.fair_laws.specs.Reached.{IsReached}
 use Rattle.message_parts.specs.Splits.{may_split}
 use Rattle.part_network.specs.Packets.{HasPackets, HasFrames, IsFault, most_bytes, bytes_of}
@@ -19,9 +21,10 @@ use Rattle.part_network.proofs.Sent.{bytes_behind}
 use Rattle.send_laws.specs.Widths.{HasWidths}
 use Rattle.send_laws.proofs.Sending.{sent_in_frames}
 use Rattle.wire_tables.specs.Wire.{PartPacket, PartOutbox, split, in_parts, sent_lines, lines_from}
+use Rattle.node_steps.specs.Fits.{packet_with}
 use Rattle.node_steps.specs.declared.fault.WorldFault.{WorldFault}
 use Rattle.node_steps.specs.declared.fault.WorldFault.TheVariants.{Memory, Limit as LimitPassed}
-use Rattle.wire_steps.specs.Sending.{parts_of, parts_in, packets_in, AllSent, AllOutsSent, AreSent, IsToldOne, AreTold, fault_of, IsSendFault, IsOverFault}
+use Rattle.wire_steps.specs.Sending.{parts_of, parts_in, packets_in, packets_by, owners_for, AllSent, AllOutsSent, AreSent, IsToldOne, AreTold, fault_of, IsSendFault, IsOverFault}
 
 -- ---- lines and bytes of packets that are sent one behind the other
 
@@ -70,10 +73,12 @@ send_fault faults.Memory = inl refl
 pub memory_over : (ps : List PartPacket) (e : WorldFault) → e ≡ Memory → IsOverFault ps e
 memory_over ps e is = λ count over. let both : Memory ≡ LimitPassed 10 count = sym is ∙ over in absurd cc
 
--- a message without an address is for the Store
-pub address_is : (o : Option Node) → unwrap_or o the_store ≡ address o
-address_is (Some n) = refl
-address_is None = refl
+-- the next packet of a party, and the others
+pub next_packet : (w : AWorld) (from to : Node) (messages : List (Option Node × Message)) (o : Option Node) (message : Message) (rest : List (Option Node × Message))
+    → messages ≡ (o, message) ∷ rest → to ≡ address (owners_for w from) o (message_of message) → packets_by w from messages ≡ packet_with from to message ∷ packets_by w from rest
+next_packet w from to messages o message rest is at =
+    ap (λ (items : List (Option Node × Message)). packets_by w from items) is
+    ∙ ap (λ (n : Node). packet_with from n message ∷ packets_by w from rest) (sym at)
 
 -- ---- packets, one after the other
 

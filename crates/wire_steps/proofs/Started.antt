@@ -1,9 +1,11 @@
 -- Events of the nodes alone: what is in memory behind a start, and what each comes to.
-use Rattle.std.proofs.Common.{◌≡◌, ◌≢◌, ◌⊎◌, inl, inr, ⊎_elim, ℕ, suc, ◌+◌, ◌<◌, Bool, true, false, List, [], ◌∷◌, ◌++◌, length, map, drop, Option, Some, None, Result, Ok, Err, refl, sym, ◌∙◌, ap, subst, arith, true≢false}
+use Rattle.std.proofs.Common.{◌≡◌, ◌≢◌, ◌⊎◌, inl, inr, ⊎_elim, ℕ, suc, ◌+◌, ◌<◌, Bool, true, false, List, [], ◌∷◌}
+use Rattle.std.proofs.Common.{◌++◌, length, map, drop, Option, Some, None, Result, Ok, Err, refl, sym, ◌∙◌, ap, subst, arith, true≢false}
 use Rattle.std.proofs.Math.Seq.{drop-cons}
-use Rattle.std.specs.Prelude.{slice_index_or, filter, IfOk, IfErr, is_some, if◌then◌else◌}
+use Rattle.std.specs.Prelude.{◌&&◌, slice_index_or, filter, IfOk, IfErr, is_some, if◌then◌else◌}
+use Rattle.std.specs.BTreeMap as tree
+use Rattle.std.specs.Ordering.{nat_cmp}
 use Rattle.std.specs.List.{flat_map}
-use Rattle.std.proofs.lemmas.Bool.Decides.{nat_tests}
 use Rattle.disk_trait.specs.Calls.{DiskState, IsCounted}
 use Rattle.stab_base.specs.declared.node.Node.{Node}
 use Rattle.stab_base.specs.declared.node.Node.TheVariants as nodes
@@ -14,15 +16,16 @@ use Rattle.table_model.specs.declared.line.TextLine.{TextLine}
 use Rattle.step_tables.specs.Facts.{Fact}
 use Rattle.step_tables.specs.Facts as facts
 use Rattle.step_tables.specs.Lines.{fact_of}
+use Rattle.step_tables.specs.StoreMoves.{StoreTask}
 use Rattle.store_node.specs.Due as store_facts
 use Rattle.store_node.specs.declared.told.StoreFact.{StoreFact}
 use Rattle.store_node.specs.declared.told.StoreFact.TheVariants as told_facts
-use Rattle.store_node.specs.declared.node.StoreOut.{StoreOut}
+use Rattle.store_host.specs.declared.hosted.TableOut.{TableOut}
 use Rattle.store_host.specs.Holds as stores
 use Rattle.journal_host.specs.Holds as hosts
 use Rattle.world_tables.specs.Faults.{is_device_fault, is_fault_answer}
-use Rattle.world_tables.specs.World.{World as AWorld, Outbox, WorldStep, Lucks, client_at}
-use Rattle.world_tables.specs.World.{is_down, is_client_down, step, client_pairs, answering, answered, store_starts, client_starts}
+use Rattle.world_tables.specs.World.{World as AWorld, Hosted, Outbox, WorldStep, Lucks, owner_of, hosted_at, client_at}
+use Rattle.world_tables.specs.World.{has_store, is_down, is_client_down, step, client_pairs, answering, answered, store_starts, client_starts}
 use Rattle.step_tables.specs.ClientMoves.{Client}
 use Rattle.fair_laws.specs.Reached.{IsBuilt}
 use Rattle.fair_laws.specs.Reached as fair
@@ -30,7 +33,7 @@ use Rattle.part_tables.specs.Arriving.{Arriving, nothing_arriving}
 use Rattle.part_client.specs.Keeping.{Keeps}
 use Rattle.part_network.specs.Packets.{HasPackets, most_bytes, bytes_of}
 use Rattle.wire_tables.specs.Faults.{is_wire_fault}
-use Rattle.wire_tables.specs.Wire.{PartPacket, Wire, WireStep, with_arriving, noting, torn_by_fact, torn_told, spread, wire_step, lines_of}
+use Rattle.wire_tables.specs.Wire.{PartPacket, Wire, WireStep, has_agenda, is_hosted_up, with_arriving, noting, torn_by_fact, torn_told, spread, wire_step, lines_of}
 use Rattle.node_steps.specs.declared.fault.WorldFault.{WorldFault}
 use Rattle.node_steps.specs.declared.fault.WorldFault.TheVariants.{Memory, Depot, Limit as LimitPassed}
 use Rattle.node_steps.specs.declared.told.Outs.{Outs}
@@ -41,6 +44,7 @@ use Rattle.node_steps.specs.Faults as node_faults
 use Rattle.node_steps.specs.Fits.{IsOwn}
 use Rattle.node_steps.specs.Holds.{AreOut, Holds as NodesHold}
 use Rattle.node_steps.specs.Holds as nodes_hold
+use Rattle.store_host.specs.Holds.{is_up_there}
 use Rattle.node_steps.specs.Rows.{RowsStay}
 use Rattle.node_steps.specs.Steps as node_steps
 use Rattle.node_steps.specs.Told.{AreOuts}
@@ -49,14 +53,14 @@ use Rattle.wire_steps.specs.Holds.{Holds, HoldsMemory, IsWorld}
 use Rattle.wire_steps.specs.Reached.{IsReached}
 use Rattle.wire_steps.specs.Kinds.{started}
 use Rattle.wire_steps.specs.Sending.{outs_of, packets_in, IsToTell, IsTold, IsSendFault, IsOverFault}
-use Rattle.wire_steps.specs.Starting.{if_down, Forgets, noted_in}
+use Rattle.wire_steps.specs.Starting.{if_down, Forgets, NotesOf, HasLostAll, Notes, noted_in}
 use Rattle.wire_steps.specs.Steps.{IsMoved, IsStep, IsOver, IsUndone, Spends, may_begin}
 use Rattle.wire_laws.proofs.Carried.{reached_world}
-use Rattle.wire_steps.proofs.Handed.{reached_next, step_sent, step_sizes}
+use Rattle.wire_steps.proofs.Handed.{reached_next, hosted_stays, step_sent, step_sizes}
 use Rattle.wire_steps.proofs.Answered.{limit_apart, some_plans}
 use Rattle.wire_steps.proofs.Told.{store_silent, client_silent}
-use Rattle.wire_steps.proofs.Lasting.{Grows, last_self, grows_last, step_grows, other_start_lasts, client_start_lasts, owner_start_clients, reached_downed}
-use Rattle.wire_steps.proofs.Remembering.{memory_grown, memory_noted, memory_cleared}
+use Rattle.wire_steps.proofs.Lasting.{Grows, last_self, grows_last, step_grows, client_start_lasts, store_start_clients}
+use Rattle.wire_steps.proofs.Remembering.{Gathered, memory_grown, memory_noted, memory_started, memory_joined, memory_forgotten}
 
 -- ---- the rows that facts tell as torn
 
@@ -87,9 +91,9 @@ store_tells_none : (facts : List StoreFact) → flat_map torn_by_fact (map store
 store_tells_none [] = refl
 store_tells_none (fact ∷ facts) = ap (λ (l : List (ℕ × List ℕ)). l ++ flat_map torn_by_fact (map store_facts.fact_of facts)) (store_tells fact) ∙ store_tells_none facts
 
-pub store_torn : (some : List StoreOut) → torn_told (stores.outs_in some) ≡ []
+pub store_torn : (some : List TableOut) → torn_told (stores.outs_in some) ≡ []
 store_torn [] = refl
-store_torn (out ∷ some) = ap (λ (l : List (ℕ × List ℕ)). l ++ torn_told (stores.outs_in some)) (store_tells_none out.facts) ∙ store_torn some
+store_torn (out ∷ some) = ap (λ (l : List (ℕ × List ℕ)). l ++ torn_told (stores.outs_in some)) (store_tells_none out.out.facts) ∙ store_torn some
 
 -- those that told and sent nothing told none
 module _ (says : Outbox → Bool) (silent : (out : Outbox) → says out ≡ false → out.facts ≡ []) where
@@ -102,10 +106,10 @@ module _ (says : Outbox → Bool) (silent : (out : Outbox) → says out ≡ fals
       go true is rest = ap (λ (l : List (ℕ × List ℕ)). flat_map torn_by_fact out.facts ++ l) rest
       go false is rest = rest ∙ sym (ap (λ (fs : List Fact). flat_map torn_by_fact fs ++ torn_told moves) (silent out is))
 
-pub outs_torn : (o : Outs) (moves : List Outbox) → AreOuts o moves → torn_told (outs_of o) ≡ torn_told moves
-outs_torn outs.Nothing moves is = ap torn_told (sym is)
-outs_torn (outs.OfStore some) moves is = ap torn_told is ∙ said_torn stores.says_something (λ out e. (store_silent out e).0) moves
-outs_torn (outs.OfClients some) moves is = ap torn_told is ∙ said_torn hosts.says_something (λ out e. (client_silent out e).0) moves
+pub outs_torn : (owners : ℕ → ℕ) (o : Outs) (moves : List Outbox) → AreOuts owners o moves → torn_told (outs_of owners o) ≡ torn_told moves
+outs_torn owners outs.Nothing moves is = ap torn_told (sym is)
+outs_torn owners (outs.OfStore some) moves is = ap torn_told is ∙ said_torn stores.says_something (λ out e. (store_silent out e).0) moves
+outs_torn owners (outs.OfClients some) moves is = ap torn_told is ∙ said_torn hosts.says_something (λ out e. (client_silent out e).0) moves
 
 -- ---- the step of the wire
 
@@ -114,6 +118,12 @@ kept_for None s v = v
 kept_for (Some (nodes.Store number)) s v = v
 kept_for (Some (nodes.Client c)) s v = with_arriving c (noting (torn_told s.outs) nothing_arriving) v
 kept_for (Some (nodes.Gate gate)) s v = v
+
+-- the wire with what is kept of parts where the nodes carry out an event
+abbrev pub kept_by : Event → WorldStep → Wire → Wire
+kept_by (events.Store number) s v = record v { gathered = [] }
+kept_by (events.Start node) s v = kept_for (if_down v.world (Some node)) s v
+kept_by other s v = v
 
 module _ (v : Wire) (lucks : Lucks) where
   start_is : (node : Node) → let s : WorldStep = step v.world (events.Start node) lucks in
@@ -137,23 +147,33 @@ module _ (v : Wire) (lucks : Lucks) where
       go false = refl
   start_is (nodes.Gate gate) = refl
 
-  pub own_is : (event : Event) → IsOwn event → wire_step v event lucks ≡ spread (kept_for (if_down v.world (started event)) (step v.world event lucks) v) (step v.world event lucks)
+  pub own_is : (event : Event) → IsOwn event → wire_step v event lucks ≡ spread (kept_by event (step v.world event lucks) v) (step v.world event lucks)
   own_is (events.Deliver packet) own = absurd own
   own_is (events.Pull c table) own = absurd own
   own_is (events.Start node) own = start_is node
   own_is other own = refl
 
-pub kept_packets : (o : Option Node) (s : WorldStep) (v : Wire) → (kept_for o s v).packets ≡ v.packets
-kept_packets None s v = refl
-kept_packets (Some (nodes.Store number)) s v = refl
-kept_packets (Some (nodes.Client c)) s v = refl
-kept_packets (Some (nodes.Gate gate)) s v = refl
+packets_for : (o : Option Node) (s : WorldStep) (v : Wire) → (kept_for o s v).packets ≡ v.packets
+packets_for None s v = refl
+packets_for (Some (nodes.Store number)) s v = refl
+packets_for (Some (nodes.Client c)) s v = refl
+packets_for (Some (nodes.Gate gate)) s v = refl
 
-pub kept_world : (o : Option Node) (s : WorldStep) (v : Wire) → (kept_for o s v).world ≡ v.world
-kept_world None s v = refl
-kept_world (Some (nodes.Store number)) s v = refl
-kept_world (Some (nodes.Client c)) s v = refl
-kept_world (Some (nodes.Gate gate)) s v = refl
+pub kept_packets : (event : Event) (s : WorldStep) (v : Wire) → (kept_by event s v).packets ≡ v.packets
+kept_packets (events.Store number) s v = refl
+kept_packets (events.Start node) s v = packets_for (if_down v.world (Some node)) s v
+kept_packets other s v = refl
+
+world_for : (o : Option Node) (s : WorldStep) (v : Wire) → (kept_for o s v).world ≡ v.world
+world_for None s v = refl
+world_for (Some (nodes.Store number)) s v = refl
+world_for (Some (nodes.Client c)) s v = refl
+world_for (Some (nodes.Gate gate)) s v = refl
+
+pub kept_world : (event : Event) (s : WorldStep) (v : Wire) → (kept_by event s v).world ≡ v.world
+kept_world (events.Store number) s v = refl
+kept_world (events.Start node) s v = world_for (if_down v.world (Some node)) s v
+kept_world other s v = refl
 
 -- whether a device fault shows
 pub own_fault : (v : Wire) (event : Event) (lucks : Lucks) → IsOwn event → is_wire_fault v event lucks ≡ is_device_fault v.world event lucks
@@ -169,28 +189,41 @@ module _ {D : Type 0} (state : D → DiskState) (v : Wire) (r : fair.IsReached v
   Remembers event node = let s : WorldStep = step v.world event lucks in
       HoldsMemory (spread (kept_for node s v) s).wire new.gathered new.arriving
 
+  joined : (number : ℕ) → HasLostAll old new
+      → HoldsMemory (spread (record v { gathered = [] }) (step v.world (events.Store number) lucks)).wire new.gathered new.arriving
+  joined number k = subst (λ (w : World D). HoldsMemory (spread (record v { gathered = [] }) (step v.world (events.Store number) lucks)).wire w.gathered w.arriving) (sym k.rest)
+      (memory_joined v old.gathered old.arriving m (step v.world (events.Store number) lucks).world _ new.gathered k.none refl)
+
   grown : (event : Event) → Grows (λ q. ⊥) v.world (step v.world event lucks).world → new ≡ old → Remembers event None
   grown event g same = subst (λ (w : World D). HoldsMemory (spread v (step v.world event lucks)).wire w.gathered w.arriving) (sym same)
       (memory_grown v old.gathered old.arriving m (step v.world event lucks).world _ g)
 
+  still_up : (number : ℕ) (declared : Bool)
+      → Grows (λ q. ⊥) v.world (if declared && false then answering facts.Done (store_starts number lucks.calls v.world) else answered v.world facts.Done).world
+  still_up number true = grows_last (λ q. ⊥) v.world v.world (last_self (λ q. ⊥) v.world)
+  still_up number false = grows_last (λ q. ⊥) v.world v.world (last_self (λ q. ⊥) v.world)
+
   up_grows : (node : Node) → is_down v.world node ≡ false → Grows (λ q. ⊥) v.world (step v.world (events.Start node) lucks).world
-  up_grows (nodes.Store number) up = subst (λ (b : Bool). Grows (λ q. ⊥) v.world (if b then answering facts.Done (store_starts number lucks.calls v.world) else answered v.world facts.Done).world) (sym up)
-      (grows_last (λ q. ⊥) v.world v.world (last_self (λ q. ⊥) v.world))
+  up_grows (nodes.Store number) up = subst
+      (λ (b : Bool). Grows (λ q. ⊥) v.world (if has_store v.world number && b then answering facts.Done (store_starts number lucks.calls v.world) else answered v.world facts.Done).world)
+      (sym up) (still_up number (has_store v.world number))
   up_grows (nodes.Client c) up = subst (λ (b : Bool). Grows (λ q. ⊥) v.world (if b then answering facts.Done (client_starts c lucks.shape lucks.calls v.world) else answered v.world facts.Done).world)
       (sym up) (grows_last (λ q. ⊥) v.world v.world (last_self (λ q. ⊥) v.world))
   up_grows (nodes.Gate gate) up = grows_last (λ q. ⊥) v.world v.world (last_self (λ q. ⊥) v.world)
 
-  store_remembers : (number : ℕ) (b : Bool) → is_down v.world (nodes.Store number) ≡ b → Forgets (if b then Some (nodes.Store number) else None) o old new
+  store_remembers : (number : ℕ) (b : Bool) → is_down v.world (nodes.Store number) ≡ b → Forgets (if b then Some (nodes.Store number) else None) v.world old → new ≡ old
       → Remembers (events.Start (nodes.Store number)) (if b then Some (nodes.Store number) else None)
-  store_remembers number false down same = grown (events.Start (nodes.Store number)) (up_grows (nodes.Store number) down) same
-  store_remembers number true down forgets = ⊎_elim
-      (λ k. grown (events.Start (nodes.Store number))
-      (grows_last (λ q. ⊥) v.world (step v.world (events.Start (nodes.Store number)) lucks).world (other_start_lasts (λ q. ⊥) v.world number lucks (grind (arith, nat_tests, k.0)))) k.1)
-      (λ k. subst (λ (w : World D). HoldsMemory (spread v (step v.world (events.Start (nodes.Store number)) lucks)).wire w.gathered w.arriving) (sym k.1)
-      (memory_cleared v old.gathered old.arriving m (step v.world (events.Start (nodes.Store number)) lucks).world _ new.gathered
-      (reached_downed v.world r (subst (λ (n : ℕ). is_down v.world (nodes.Store n) ≡ true) k.0 down)) k.2
-      (subst (λ (n : ℕ). (step v.world (events.Start (nodes.Store n)) lucks).world.clients ≡ v.world.clients) (sym k.0) (owner_start_clients v.world lucks))))
-      forgets
+  store_remembers number false down forgotten same = grown (events.Start (nodes.Store number)) (up_grows (nodes.Store number) down) same
+  store_remembers number true down forgotten same =
+      let s : WorldStep = step v.world (events.Start (nodes.Store number)) lucks in
+      subst (λ (w : World D). HoldsMemory (spread v s).wire w.gathered w.arriving) (sym same)
+      (memory_started v old.gathered old.arriving m s.world _ forgotten (λ t none. hosted_stays v.world r (events.Start (nodes.Store number)) lucks tt t none)
+      (store_start_clients v.world number lucks))
+
+  -- of a Store none is noted
+  store_notes : (b : Bool) (number : ℕ) → NotesOf (if b then Some (nodes.Store number) else None) o old new → new ≡ old
+  store_notes true number k = k
+  store_notes false number k = k
 
   client_there : (c : ℕ) → is_down v.world (nodes.Client c) ≡ true → is_some (client_at v.world c) ≡ true
   client_there c down = go (client_at v.world c) refl
@@ -199,61 +232,94 @@ module _ {D : Type 0} (state : D → DiskState) (v : Wire) (r : fair.IsReached v
       go (Some node) at = refl
       go None at = absurd (true≢false (sym down ∙ ap is_client_down at))
 
-  client_remembers : (c : ℕ) (b : Bool) → is_down v.world (nodes.Client c) ≡ b → torn_told (outs_of o) ≡ torn_told (step v.world (events.Start (nodes.Client c)) lucks).outs
-      → Forgets (if b then Some (nodes.Client c) else None) o old new → Remembers (events.Start (nodes.Client c)) (if b then Some (nodes.Client c) else None)
-  client_remembers c false down torn same = grown (events.Start (nodes.Client c)) (up_grows (nodes.Client c) down) same
-  client_remembers c true down torn k =
+  client_remembers : (c : ℕ) (owners : ℕ → ℕ) (b : Bool) → is_down v.world (nodes.Client c) ≡ b → torn_told (outs_of owners o) ≡ torn_told (step v.world (events.Start (nodes.Client c)) lucks).outs
+      → NotesOf (if b then Some (nodes.Client c) else None) o old new → Remembers (events.Start (nodes.Client c)) (if b then Some (nodes.Client c) else None)
+  client_remembers c owners false down torn same = grown (events.Start (nodes.Client c)) (up_grows (nodes.Client c) down) same
+  client_remembers c owners true down torn k =
       let s : WorldStep = step v.world (events.Start (nodes.Client c)) lucks in
       let last = client_start_lasts v.world c lucks in
       subst (λ (w : World D). HoldsMemory (spread (with_arriving c (noting (torn_told s.outs) nothing_arriving) v) s).wire w.gathered w.arriving) (sym k.rest)
       (memory_noted v old.gathered old.arriving m s.world _ c (noting (torn_told s.outs) nothing_arriving) new.arriving k.it (grows_last (λ q. q ≡ c) v.world s.world last)
       (last.there c (client_there c down))
-      (subst (λ (l : List (ℕ × List ℕ)). Keeps k.it (noting l nothing_arriving)) torn k.keeps) k.at)
+      (subst (λ (l : List (ℕ × List ℕ)). Keeps k.it (noting l nothing_arriving)) torn (k.keeps owners)) k.at)
 
-  pub own_remembers : (event : Event) → IsOwn event → torn_told (outs_of o) ≡ torn_told (step v.world event lucks).outs → Forgets (if_down v.world (started event)) o old new
-      → Remembers event (if_down v.world (started event))
-  own_remembers (events.Deliver packet) own torn k = absurd own
-  own_remembers (events.Pull c table) own torn k = absurd own
-  own_remembers (events.Start (nodes.Store number)) own torn k = store_remembers number (is_down v.world (nodes.Store number)) refl k
-  own_remembers (events.Start (nodes.Client c)) own torn k = client_remembers c (is_down v.world (nodes.Client c)) refl torn k
-  own_remembers (events.Start (nodes.Gate gate)) own torn k = grown (events.Start (nodes.Gate gate)) (up_grows (nodes.Gate gate) refl) k
-  own_remembers other own torn k = grown other (step_grows v.world other lucks tt) k
+  pub own_remembers : (event : Event) (owners : ℕ → ℕ) → IsOwn event → torn_told (outs_of owners o) ≡ torn_told (step v.world event lucks).outs
+      → Forgets (if_down v.world (started event)) v.world old → Notes event (if_down v.world (started event)) o old new
+      → HoldsMemory (spread (kept_by event (step v.world event lucks) v) (step v.world event lucks)).wire new.gathered new.arriving
+  own_remembers (events.Store number) owners own torn f k = joined number k
+  own_remembers (events.Deliver packet) owners own torn f k = absurd own
+  own_remembers (events.Pull c table) owners own torn f k = absurd own
+  own_remembers (events.Start (nodes.Store number)) owners own torn f k =
+      store_remembers number (is_down v.world (nodes.Store number)) refl f (store_notes (is_down v.world (nodes.Store number)) number k)
+  own_remembers (events.Start (nodes.Client c)) owners own torn f k = client_remembers c owners (is_down v.world (nodes.Client c)) refl torn k
+  own_remembers (events.Start (nodes.Gate gate)) owners own torn f k = grown (events.Start (nodes.Gate gate)) (up_grows (nodes.Gate gate) refl) k
+  own_remembers other owners own torn f k = grown other (step_grows v.world other lucks tt) k
+
+-- ---- what tables that are down had gathered
+
+pub up_is : (o : Option Hosted) → is_up_there o ≡ is_hosted_up o
+up_is None = refl
+up_is (Some hosted) = go hosted.store.agenda
+  where
+    go : (o : Option (List StoreTask)) → is_some o ≡ has_agenda o
+    go None = refl
+    go (Some tasks) = refl
+
+pub forgotten_held : {D : Type 0} (state : D → DiskState) (v : Wire) (world : World D) → Holds state v world → (less : Gathered)
+    → ((t : ℕ) → tree.get nat_cmp less t ≡ (if is_hosted_up (hosted_at v.world t) then tree.get nat_cmp world.gathered t else None)) → Holds state v (record world { gathered = less })
+forgotten_held state v world h less at = record {
+  nodes = h.nodes;
+  packets = h.packets;
+  memory = memory_forgotten v world.gathered world.arriving h.memory less at;
+}
+
+pub forgotten_none : (w : AWorld) (gathered less : Gathered) → ((t : ℕ) → tree.get nat_cmp less t ≡ (if is_hosted_up (hosted_at w t) then tree.get nat_cmp gathered t else None))
+    → (t : ℕ) → is_hosted_up (hosted_at w t) ≡ false → tree.get nat_cmp less t ≡ None
+forgotten_none w gathered less at t down = at t ∙ ap (λ (b : Bool). if b then tree.get nat_cmp gathered t else None) down
 
 -- ---- an event that is told
 
 module _ {D : Type 0} (state : D → DiskState) (images : D → ℕ → List ℕ → Type 0) (v : Wire) (r : fair.IsReached v.world) (event : Event) (built : IsBuilt event) (own : IsOwn event)
     (is_out : ℕ → Bool) (old mid : World D) (told : Told) (h : Holds state v old) (k : node_steps.IsStep state images v.world event told is_out old.nodes mid.nodes)
-    (forgets : Forgets (if_down v.world (started event)) told.outs (record old { nodes = mid.nodes }) mid) where
+    (forgets : Forgets (if_down v.world (started event)) v.world old) (notes : Notes event (if_down v.world (started event)) told.outs (record old { nodes = mid.nodes }) mid) where
+  forgets_behind : (o : Option Node) → Forgets o v.world old → Forgets o v.world (record old { nodes = mid.nodes })
+  forgets_behind None f = tt
+  forgets_behind (Some (nodes.Store number)) f = f
+  forgets_behind (Some (nodes.Client c)) f = tt
+  forgets_behind (Some (nodes.Gate gate)) f = tt
+
   abbrev its : WorldStep
   its = step v.world event k.lucks
 
   abbrev its_kept : Wire
-  its_kept = kept_for (if_down v.world (started event)) (step v.world event k.lucks) v
+  its_kept = kept_by event (step v.world event k.lucks) v
 
   pub its_memory : HoldsMemory (spread its_kept its).wire mid.gathered mid.arriving
-  its_memory = own_remembers state v r k.lucks (record old { nodes = mid.nodes }) mid told.outs h.memory event own (outs_torn told.outs its.outs k.outs_are) forgets
+  its_memory = own_remembers state v r k.lucks (record old { nodes = mid.nodes }) mid told.outs h.memory event (owner_of its.world) own
+      (outs_torn (owner_of its.world) told.outs its.outs k.outs_are) (forgets_behind (if_down v.world (started event)) forgets) notes
 
   pub its_world : its_kept.world ≡ v.world
-  its_world = kept_world (if_down v.world (started event)) its v
+  its_world = kept_world event its v
 
   pub its_packets : its_kept.packets ≡ v.packets
-  its_packets = kept_packets (if_down v.world (started event)) its v
+  its_packets = kept_packets event its v
 
   pub its_network : mid.network ≡ old.network
-  its_network = rest (if_down v.world (started event)) forgets
+  its_network = go event (if_down v.world (started event)) notes
     where
-      of_node : (node : Node) → Forgets (Some node) told.outs (record old { nodes = mid.nodes }) mid → mid.network ≡ old.network
-      of_node (nodes.Store number) f = ⊎_elim (λ e. ap (λ (w : World D). w.network) e.1) (λ e. ap (λ (w : World D). w.network) e.1) f
-      of_node (nodes.Client c) f = ap (λ (w : World D). w.network) f.rest
-      of_node (nodes.Gate gate) f = ap (λ (w : World D). w.network) f
-
-      rest : (o : Option Node) → Forgets o told.outs (record old { nodes = mid.nodes }) mid → mid.network ≡ old.network
+      rest : (o : Option Node) → NotesOf o told.outs (record old { nodes = mid.nodes }) mid → mid.network ≡ old.network
       rest None f = ap (λ (w : World D). w.network) f
-      rest (Some node) f = of_node node f
+      rest (Some (nodes.Store number)) f = ap (λ (w : World D). w.network) f
+      rest (Some (nodes.Client c)) f = ap (λ (w : World D). w.network) f.rest
+      rest (Some (nodes.Gate gate)) f = ap (λ (w : World D). w.network) f
+
+      go : (e : Event) (o : Option Node) → Notes e o told.outs (record old { nodes = mid.nodes }) mid → mid.network ≡ old.network
+      go (events.Store number) o f = ap (λ (w : World D). w.network) f.rest
+      go other o f = rest o f
 
   abbrev pub own_tells : IsToTell state mid told
   own_tells = record {
-    kept = kept_for (if_down v.world (started event)) (step v.world event k.lucks) v;
+    kept = kept_by event (step v.world event k.lucks) v;
     s = step v.world event k.lucks;
     reached = reached_next v.world event k.lucks r built;
     lines_are = k.lines_are;
@@ -280,7 +346,7 @@ module _ {D : Type 0} (state : D → DiskState) (images : D → ℕ → List ℕ
   }
 
   pub own_done : (new : World D) → new.nodes ≡ mid.nodes → (lines : List TextLine)
-      → IsTold state (kept_for (if_down v.world (started event)) (step v.world event k.lucks) v) (step v.world event k.lucks) lines new
+      → IsTold state (kept_by event (step v.world event k.lucks) v) (step v.world event k.lucks) lines new
       → IsStep state images v event lines is_out old new
   own_done new same lines t = record {
     lucks = k.lucks;
@@ -290,7 +356,7 @@ module _ {D : Type 0} (state : D → DiskState) (images : D → ℕ → List ℕ
   }
 
   pub own_over : (new : World D) → new.nodes ≡ mid.nodes
-      → most_bytes < bytes_of (spread (kept_for (if_down v.world (started event)) (step v.world event k.lucks) v) (step v.world event k.lucks)).wire.packets
+      → most_bytes < bytes_of (spread (kept_by event (step v.world event k.lucks) v) (step v.world event k.lucks)).wire.packets
       → IsOver state images v event is_out old new
   own_over new same over = record {
     lucks = k.lucks;
@@ -298,31 +364,54 @@ module _ {D : Type 0} (state : D → DiskState) (images : D → ℕ → List ℕ
     moved = own_moved new same;
   }
 
--- ---- and what comes of it
+-- ---- and what comes of it: of the world before what it forgets
+
+module _ {D : Type 0} (state : D → DiskState) (images : D → ℕ → List ℕ → Type 0) (v : Wire) (event : Event) (is_out : ℕ → Bool) (first old new : World D) (from : old.nodes ≡ first.nodes) where
+  moved_first : (lucks : Lucks) → IsMoved state images v event lucks is_out old new → IsMoved state images v event lucks is_out first new
+  moved_first lucks m = record {
+    held = m.held;
+    out = m.out;
+    rose = λ is. subst (λ (n : Nodes D). node_faults.all_faults state n < node_faults.all_faults state new.nodes) from (m.rose is);
+    same = λ is. m.same is ∙ ap (λ (n : Nodes D). node_faults.all_faults state n) from;
+    rows = subst (λ (n : Nodes D). RowsStay state images v.world (wire_step v event lucks).wire.world n new.nodes) from m.rows;
+  }
+
+  step_first : (lines : List TextLine) → IsStep state images v event lines is_out old new → IsStep state images v event lines is_out first new
+  step_first lines k = record { lucks = k.lucks; lines_are = k.lines_are; held = k.held; moved = moved_first k.lucks k.moved }
+
+  over_first : IsOver state images v event is_out old new → IsOver state images v event is_out first new
+  over_first k = record { lucks = k.lucks; over = k.over; moved = moved_first k.lucks k.moved }
 
 module _ {D : Type 0} (state : D → DiskState) (images : D → ℕ → List ℕ → Type 0) (v : Wire) (r : fair.IsReached v.world) (event : Event) (built : IsBuilt event) (own : IsOwn event)
-    (is_out : ℕ → Bool) (old : World D) (after : Nodes D) (mid : World D) (told : Told) (h : Holds state v old) (k : node_steps.IsStep state images v.world event told is_out old.nodes after)
-    (same : mid.nodes ≡ after) (node : Option Node) (is : node ≡ if_down v.world (started event)) (f : Forgets node told.outs (record old { nodes = after }) mid) where
+    (is_out : ℕ → Bool) (first old : World D) (from : old.nodes ≡ first.nodes) (after : Nodes D) (mid : World D) (told : Told) (h : Holds state v old)
+    (k : node_steps.IsStep state images v.world event told is_out old.nodes after)
+    (same : mid.nodes ≡ after) (node : Option Node) (is : node ≡ if_down v.world (started event)) (f : Forgets node v.world old)
+    (noted : Notes event node told.outs (record old { nodes = after }) mid) where
   abbrev pub stepped_so : node_steps.IsStep state images v.world event told is_out old.nodes mid.nodes
   stepped_so = subst (λ (n : Nodes D). node_steps.IsStep state images v.world event told is_out old.nodes n) (sym same) k
 
-  abbrev pub forgets_so : Forgets (if_down v.world (started event)) told.outs (record old { nodes = mid.nodes }) mid
-  forgets_so = subst (λ (o : Option Node). Forgets o told.outs (record old { nodes = mid.nodes }) mid) is
-      (subst (λ (n : Nodes D). Forgets node told.outs (record old { nodes = n }) mid) (sym same) f)
+  abbrev pub forgets_so : Forgets (if_down v.world (started event)) v.world old
+  forgets_so = subst (λ (o : Option Node). Forgets o v.world old) is f
+
+  abbrev pub notes_so : Notes event (if_down v.world (started event)) told.outs (record old { nodes = mid.nodes }) mid
+  notes_so = subst (λ (o : Option Node). Notes event o told.outs (record old { nodes = mid.nodes }) mid) is
+      (subst (λ (n : Nodes D). Notes event node told.outs (record old { nodes = n }) mid) (sym same) noted)
 
   abbrev pub carried_tells : IsToTell state mid told
-  carried_tells = own_tells state images v r event built own is_out old mid told h stepped_so forgets_so
+  carried_tells = own_tells state images v r event built own is_out old mid told h stepped_so forgets_so notes_so
 
   pub carried_done : (new : World D) → new.nodes ≡ mid.nodes → (result : Result (List TextLine) WorldFault)
-      → IfOk result (λ lines. IsTold state carried_tells.kept carried_tells.s lines new) → IfOk result (λ lines. IsStep state images v event lines is_out old new)
-  carried_done new still (Ok lines) t = own_done state images v r event built own is_out old mid told h stepped_so forgets_so new still lines t
+      → IfOk result (λ lines. IsTold state carried_tells.kept carried_tells.s lines new) → IfOk result (λ lines. IsStep state images v event lines is_out first new)
+  carried_done new still (Ok lines) t =
+      step_first state images v event is_out first old new from lines (own_done state images v r event built own is_out old mid told h stepped_so forgets_so notes_so new still lines t)
   carried_done new still (Err e) t = tt
 
   pub carried_over : (new : World D) → new.nodes ≡ mid.nodes → (result : Result (List TextLine) WorldFault)
       → IfErr result (IsOverFault (spread carried_tells.kept carried_tells.s).wire.packets)
-      → IfErr result (λ e. (count : ℕ) → e ≡ LimitPassed 10 count → IsOver state images v event is_out old new)
+      → IfErr result (λ e. (count : ℕ) → e ≡ LimitPassed 10 count → IsOver state images v event is_out first new)
   carried_over new still (Ok lines) t = tt
-  carried_over new still (Err e) t = λ count ten. own_over state images v r event built own is_out old mid told h stepped_so forgets_so new still (t count ten)
+  carried_over new still (Err e) t = λ count ten.
+      over_first state images v event is_out first old new from (own_over state images v r event built own is_out old mid told h stepped_so forgets_so notes_so new still (t count ten))
 
 -- ---- limits and plans
 
@@ -366,16 +455,21 @@ pub own_reached : (v : Wire) → IsReached v → fair.IsReached v.world
 own_reached v r = reached_world v r.run r.built r.is
 
 module _ {D : Type 0} (state : D → DiskState) (v : Wire) (event : Event) (old : World D) (h : Holds state v old) where
-  pub own_undone : (is_out : ℕ → Bool) (after : Nodes D) → node_faults.IsUndone state v.world is_out old.nodes after → IsUndone state v is_out old (record old { nodes = after })
-  own_undone is_out after k = record { held = record { nodes = k.held; packets = h.packets; memory = h.memory }; out = k.out; same = k.same }
+  pub own_undone : (is_out : ℕ → Bool) (first : World D) → old.nodes ≡ first.nodes → (after : Nodes D) → node_faults.IsUndone state v.world is_out old.nodes after
+      → IsUndone state v is_out first (record old { nodes = after })
+  own_undone is_out first from after k = record {
+    held = record { nodes = k.held; packets = h.packets; memory = h.memory };
+    out = k.out;
+    same = k.same ∙ ap (λ (n : Nodes D). node_faults.all_faults state n) from;
+  }
 
   -- a limit of the nodes isn't that of the network
   abbrev pub IsNodesLimit : WorldFault → Type 0
   IsNodesLimit e = (n : ℕ) → node_steps.HavePlansBelow state n old.nodes → (code count : ℕ) → e ≡ LimitPassed code count → (code ≡ 11) × node_steps.Spends n v.world event
 
-  pub own_not_over : (images : D → ℕ → List ℕ → Type 0) (is_out : ℕ → Bool) (new : World D) (e : WorldFault) → IsNodesLimit e
-      → (count : ℕ) → e ≡ LimitPassed 10 count → IsOver state images v event is_out old new
-  own_not_over images is_out new e limit count is =
+  pub own_not_over : (images : D → ℕ → List ℕ → Type 0) (is_out : ℕ → Bool) (first new : World D) (e : WorldFault) → IsNodesLimit e
+      → (count : ℕ) → e ≡ LimitPassed 10 count → IsOver state images v event is_out first new
+  own_not_over images is_out first new e limit count is =
       let some = some_plans state v.world old.nodes h.nodes in
       absurd (limit_apart (node_steps.Spends some.0 v.world event) count e is (limit some.0 some.1))
 

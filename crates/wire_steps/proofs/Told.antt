@@ -5,7 +5,7 @@ use Rattle.disk_trait.specs.Calls.{DiskState}
 use Rattle.row_value.specs.declared.schema.Schema.{Schema}
 use Rattle.table_model.specs.declared.line.TextLine.{TextLine}
 use Rattle.step_tables.specs.Facts.{Fact, Line, AnswerLine, FactLine}
-use Rattle.world_tables.specs.World.{World as AWorld, Packet, Outbox}
+use Rattle.world_tables.specs.World.{World as AWorld, Packet, Outbox, owner_of}
 use Rattle.store_host.specs.Holds as stores
 use Rattle.journal_host.specs.Holds as hosts
 use Rattle.wire_tables.specs.Wire.{PartPacket, in_parts, sent_lines, lines_from, spread}
@@ -80,22 +80,22 @@ module _ (says : Outbox → Bool) (silent : AreSilent says) (w : AWorld) where
       go false rest = rest
 
 -- what is handed over is what the moves told and sent
-pub told_parts : (w : AWorld) (o : Outs) (moves : List Outbox) → AreOuts o moves → parts_in w (outs_of o) ≡ parts_in w moves
-told_parts w outs.Nothing moves is = ap (parts_in w) (sym is)
-told_parts w (outs.OfStore some) moves is = ap (parts_in w) is ∙ said_parts stores.says_something store_silent w moves
-told_parts w (outs.OfClients some) moves is = ap (parts_in w) is ∙ said_parts hosts.says_something client_silent w moves
+pub told_parts : (w : AWorld) (owners : ℕ → ℕ) (o : Outs) (moves : List Outbox) → AreOuts owners o moves → parts_in w (outs_of owners o) ≡ parts_in w moves
+told_parts w owners outs.Nothing moves is = ap (parts_in w) (sym is)
+told_parts w owners (outs.OfStore some) moves is = ap (parts_in w) is ∙ said_parts stores.says_something store_silent w moves
+told_parts w owners (outs.OfClients some) moves is = ap (parts_in w) is ∙ said_parts hosts.says_something client_silent w moves
 
-pub told_lines : (w : AWorld) (n : ℕ) (o : Outs) (moves : List Outbox) → AreOuts o moves → lines_from n (map (in_parts w) (outs_of o)) ≡ lines_from n (map (in_parts w) moves)
-told_lines w n outs.Nothing moves is = ap (λ (os : List Outbox). lines_from n (map (in_parts w) os)) (sym is)
-told_lines w n (outs.OfStore some) moves is =
+pub told_lines : (w : AWorld) (n : ℕ) (owners : ℕ → ℕ) (o : Outs) (moves : List Outbox) → AreOuts owners o moves → lines_from n (map (in_parts w) (outs_of owners o)) ≡ lines_from n (map (in_parts w) moves)
+told_lines w n owners outs.Nothing moves is = ap (λ (os : List Outbox). lines_from n (map (in_parts w) os)) (sym is)
+told_lines w n owners (outs.OfStore some) moves is =
     ap (λ (os : List Outbox). lines_from n (map (in_parts w) os)) is ∙ said_lines stores.says_something store_silent w n moves
-told_lines w n (outs.OfClients some) moves is =
+told_lines w n owners (outs.OfClients some) moves is =
     ap (λ (os : List Outbox). lines_from n (map (in_parts w) os)) is ∙ said_lines hosts.says_something client_silent w n moves
 
-pub told_sent : (w : AWorld) (o : Outs) (moves : List Outbox) → AreOuts o moves → AllOutsSent w moves → AllOutsSent w (outs_of o)
-told_sent w outs.Nothing moves is all = tt
-told_sent w (outs.OfStore some) moves is all = subst (AllOutsSent w) (sym is) (said_sent stores.says_something store_silent w moves all)
-told_sent w (outs.OfClients some) moves is all = subst (AllOutsSent w) (sym is) (said_sent hosts.says_something client_silent w moves all)
+pub told_sent : (w : AWorld) (owners : ℕ → ℕ) (o : Outs) (moves : List Outbox) → AreOuts owners o moves → AllOutsSent w moves → AllOutsSent w (outs_of owners o)
+told_sent w owners outs.Nothing moves is all = tt
+told_sent w owners (outs.OfStore some) moves is all = subst (AllOutsSent w) (sym is) (said_sent stores.says_something store_silent w moves all)
+told_sent w owners (outs.OfClients some) moves is all = subst (AllOutsSent w) (sym is) (said_sent hosts.says_something client_silent w moves all)
 
 -- ---- chunks have the sizes of before
 
@@ -112,23 +112,23 @@ module _ (w x : AWorld) (moves : List Outbox) (same : (moves ≡ []) ⊎ (x.sche
 -- ---- a step that is told
 
 module _ {D : Type 0} (state : D → DiskState) (world : World D) (told : Told) (x : IsToTell state world told) where
-  pub told_sender : (w : AWorld) × IsSender state world.nodes w × AllOutsSent w (outs_of told.outs)
+  pub told_sender : (w : AWorld) × IsSender state world.nodes w × AllOutsSent w (outs_of (owner_of w) told.outs)
   told_sender = (
     x.s.world,
     record { reached = x.reached; held = x.held },
-    told_sent x.s.world told.outs x.s.outs x.outs_are (outs_among x.s.world x.kept.world.packets x.s.outs x.sent),
+    told_sent x.s.world (owner_of x.s.world) told.outs x.s.outs x.outs_are (outs_among x.s.world x.kept.world.packets x.s.outs x.sent),
   )
 
-  parts_are : parts_in x.s.world (outs_of told.outs) ≡ parts_in x.kept.world x.s.outs
-  parts_are = told_parts x.s.world told.outs x.s.outs x.outs_are ∙ same_parts x.kept.world x.s.world x.s.outs x.sizes
+  parts_are : parts_in x.s.world (outs_of (owner_of x.s.world) told.outs) ≡ parts_in x.kept.world x.s.outs
+  parts_are = told_parts x.s.world (owner_of x.s.world) told.outs x.s.outs x.outs_are ∙ same_parts x.kept.world x.s.world x.s.outs x.sizes
 
-  pub told_is : (lines : List TextLine) (network : Network) → AreTold x.s.world x.kept.packets (outs_of told.outs) network told.lines lines
+  pub told_is : (lines : List TextLine) (network : Network) → AreTold x.s.world x.kept.packets (outs_of (owner_of x.s.world) told.outs) network told.lines lines
       → IsTold state x.kept x.s lines (record world { network = network })
   told_is lines network k = record {
     lines_are = k.lines
-        ∙ (ap (λ (ls : List Line). ls ++ lines_from (length x.kept.packets) (map (in_parts x.s.world) (outs_of told.outs))) x.lines_are
+        ∙ (ap (λ (ls : List Line). ls ++ lines_from (length x.kept.packets) (map (in_parts x.s.world) (outs_of (owner_of x.s.world) told.outs))) x.lines_are
         ∙ (ap (λ (ls : List Line). answer_lines x.s ++ ls)
-        (told_lines x.s.world (length x.kept.packets) told.outs x.s.outs x.outs_are ∙ same_lines x.kept.world x.s.world x.s.outs x.sizes (length x.kept.packets))
+        (told_lines x.s.world (length x.kept.packets) (owner_of x.s.world) told.outs x.s.outs x.outs_are ∙ same_lines x.kept.world x.s.world x.s.outs x.sizes (length x.kept.packets))
         ∙ append_assoc (map AnswerLine (option_to_list x.s.answer)) x.s.counted (lines_from (length x.kept.packets) (map (in_parts x.kept.world) x.s.outs))));
     held = record {
       nodes = x.held;
@@ -137,5 +137,5 @@ module _ {D : Type 0} (state : D → DiskState) (world : World D) (told : Told) 
     };
   }
 
-  pub told_over : (e : WorldFault) → IsOverFault (x.kept.packets ++ parts_in x.s.world (outs_of told.outs)) e → IsOverFault (spread x.kept x.s).wire.packets e
+  pub told_over : (e : WorldFault) → IsOverFault (x.kept.packets ++ parts_in x.s.world (outs_of (owner_of x.s.world) told.outs)) e → IsOverFault (spread x.kept x.s).wire.packets e
   told_over e over = λ count is. subst (λ (ps : List PartPacket). most_bytes < bytes_of (x.kept.packets ++ ps)) parts_are (over count is)

@@ -1,9 +1,11 @@
 -- What a table has of a row, as a part is weighed by it, and what a client holds of one.
 use Rattle.std.proofs.Common.{◌≡◌, ℕ, ◌<◌, Bool, true, false, List, [], ◌∷◌, ◌++◌, Option, Some, None, refl, sym, ◌∙◌, ap, subst, append-nil, append_assoc, true≢false}
-use Rattle.std.specs.Prelude.{◌&&◌, not, zip, is_some, option_map}
+use Rattle.std.specs.Prelude.{◌==◌, ◌&&◌, not, zip, is_some, option_map}
+use Rattle.std.proofs.lemmas.Bool.{eqb-true, and_parts}
 use Rattle.std.proofs.lemmas.List.{map-append}
 use Rattle.row_value.specs.declared.schema.Schema.{Schema}
 use Rattle.stab_base.specs.declared.chunk_name.ChunkName.{ChunkName}
+use Rattle.stab_base.specs.declared.node.Node.TheVariants as nodes
 use Rattle.table_model.specs.Last.{last_where}
 use Rattle.step_tables.specs.Chunks.{Named, flat, each_chunk, objects_of, cut}
 use Rattle.step_tables.specs.ClientMoves.{Client, ClientTask, TableDisk, table_at, seen}
@@ -22,10 +24,12 @@ use Rattle.journal_host.specs.Calls.{held_by, has_table}
 use Rattle.wire_tables.specs.Wire.{Wire, is_hosted_up, is_client_up}
 use Rattle.wire_laws.proofs.Carried.{reached_world}
 use Rattle.world_tables.specs.Ready.{is_idle, is_idle_table, is_table_ready, is_idle_client, is_client_ready}
-use Rattle.world_tables.specs.World.{World as AWorld, Hosted, schema_at, hosted_at, client_at, chunk_in, is_down, the_store, is_cut}
+use Rattle.world_tables.specs.World.{World as AWorld, Hosted, schema_at, hosted_at, client_at, chunk_in, owner_of, has_store, is_down, is_cut}
+use Rattle.world_laws.proofs.Owners.{up_store}
 use Rattle.fair_laws.specs.Worlds.{IsFair}
 use Rattle.fair_laws.proofs.Worlds.{reached_fair, fits_opened}
 use Rattle.wire_steps.specs.Reached.{IsReached}
+use Rattle.wire_steps.specs.Delivering.{takes_at}
 
 -- ---- chunks under their names
 
@@ -105,7 +109,7 @@ pub record IsReadyTable (w : AWorld) (table : ℕ) : Type 0 where
   pub hosted : Hosted
   pub there : hosted_at w table ≡ Some hosted
   pub idle : hosted.store.agenda ≡ Some []
-  pub up : is_down w the_store ≡ false
+  pub up : is_down w (nodes.Store (owner_of w table)) ≡ false
 
 idle_is : {X : Type 0} (o : Option (List X)) → is_idle o ≡ true → o ≡ Some []
 idle_is None e = absurd (true≢false (sym e))
@@ -113,13 +117,13 @@ idle_is (Some []) e = refl
 idle_is (Some (x ∷ xs)) e = absurd (true≢false (sym e))
 
 pub ready_table : (w : AWorld) (table : ℕ) → is_table_ready w table ≡ true → IsReadyTable w table
-ready_table w table ready = by (is_down w the_store) refl ready
+ready_table w table ready = by (is_down w (nodes.Store (owner_of w table))) refl ready
   where
-    at : is_down w the_store ≡ false → (o : Option Hosted) → hosted_at w table ≡ o → is_idle_table o ≡ true → IsReadyTable w table
+    at : is_down w (nodes.Store (owner_of w table)) ≡ false → (o : Option Hosted) → hosted_at w table ≡ o → is_idle_table o ≡ true → IsReadyTable w table
     at up None there e = absurd (true≢false (sym e))
     at up (Some hosted) there e = record { hosted = hosted; there = there; idle = idle_is hosted.store.agenda e; up = up }
 
-    by : (b : Bool) → is_down w the_store ≡ b → (not b && is_idle_table (hosted_at w table)) ≡ true → IsReadyTable w table
+    by : (b : Bool) → is_down w (nodes.Store (owner_of w table)) ≡ b → (not b && is_idle_table (hosted_at w table)) ≡ true → IsReadyTable w table
     by true down e = absurd (true≢false (sym e))
     by false up e = at up (hosted_at w table) refl e
 
@@ -138,6 +142,14 @@ ready_client w c ready = by (is_cut w c) ready
     by : (b : Bool) → (not b && is_idle_client (client_at w c)) ≡ true → IsReadyClient w c
     by true e = absurd (true≢false (sym e))
     by false e = at (client_at w c) refl e
+
+-- its owner is declared
+pub owner_there : (w : AWorld) (table : ℕ) → is_table_ready w table ≡ true → has_store w (owner_of w table) ≡ true
+owner_there w table ready = (up_store w (owner_of w table) (ready_table w table ready).up).0
+
+-- a Store that keeps a table which takes messages
+pub takes_both : (w : AWorld) (store table : ℕ) → takes_at w store table ≡ true → (owner_of w table ≡ store) × (is_table_ready w table ≡ true)
+takes_both w store table takes = let k = and_parts (owner_of w table == store) (is_table_ready w table) takes in (eqb-true (owner_of w table) store k.0, k.1)
 
 -- they are up
 pub table_up : (w : AWorld) (table : ℕ) → is_table_ready w table ≡ true → is_hosted_up (hosted_at w table) ≡ true

@@ -19,7 +19,6 @@ use Rattle.node_steps.specs.declared.fault.WorldFault.TheVariants.{Depot as Depo
 use Rattle.node_steps.specs.declared.world.World.{World as Nodes}
 use Rattle.node_steps.specs.Faults.{AreTotals}
 use Rattle.node_steps.specs.Holds.{Holds as NodesHold}
-use Rattle.node_steps.specs.Places.{IsPlace}
 use Rattle.node_steps.specs.Rows.{AreLeftOver}
 use Rattle.node_steps.specs.Steps.{IsFull, SpendsNumber}
 use Rattle.wire_steps.specs.declared.world.World.{World}
@@ -100,7 +99,6 @@ pub record IsToCarry {D : Type 0} (state : D → DiskState) (world : World D) (f
   pub reached : fair.IsReached kept.world
   pub held : Holds state kept world
   pub carried : IsCarriedAs kept.world from to message
-  pub place : IsPlace to
 
 abbrev pub pull_step : Wire → ℕ → ℕ → List (List ℕ) → List (List ℕ) → Lucks → WireStep
 pull_step kept c table tears asks lucks =

@@ -1,5 +1,5 @@
 -- A part that comes to a node, and what is kept of it.
-use Rattle.std.specs.Prelude.{◌≡◌, ◌<◌, ℕ, true, Option, Some, slice_get}
+use Rattle.std.specs.Prelude.{◌≡◌, ◌<◌, ◌==◌, ◌&&◌, ℕ, Bool, true, Option, Some, slice_get}
 use Rattle.disk_trait.specs.Calls.{DiskState}
 use Rattle.stab_base.specs.declared.node.Node.{Node}
 use Rattle.stab_base.specs.declared.node.Node.TheVariants as nodes
@@ -7,7 +7,8 @@ use Rattle.table_model.specs.declared.event.Event.TheVariants as events
 use Rattle.table_model.specs.declared.message.Message.{Message}
 use Rattle.step_tables.specs.ClientMoves.{Client, TableDisk, table_at, seen}
 use Rattle.world_tables.specs.Ready.{is_table_ready, is_client_ready}
-use Rattle.world_tables.specs.World.{Hosted, Lucks, the_store, schema_at, hosted_at, client_at, chunk_in}
+use Rattle.world_tables.specs.World.{World as AWorld, Hosted, Lucks, owner_of, schema_at, hosted_at, client_at}
+use Rattle.world_tables.specs.World.{chunk_in}
 use Rattle.message_parts.specs.Parts.{part_of}
 use Rattle.part_tables.specs.Parts.{Part}
 use Rattle.part_tables.specs.StoreParts.{StoreTaken}
@@ -51,13 +52,16 @@ pub record IsBrought {D : Type 0} (state : D → DiskState) (world : World D) (f
   pub sent : IsSentPart v from to p
   pub part_is : part_of message ≡ Some p.part
 
--- ---- to a table at the Store that takes messages
+-- ---- to a Store that keeps the table, which takes messages
 
-pub record IsOfTable {D : Type 0} (state : D → DiskState) (world : World D) (from : Node) (table : ℕ)
+abbrev pub takes_at : AWorld → ℕ → ℕ → Bool
+takes_at w store table = (owner_of w table == store) && is_table_ready w table
+
+pub record IsOfTable {D : Type 0} (state : D → DiskState) (world : World D) (store : ℕ) (from : Node) (table : ℕ)
     (message : Message) : Type 0 where
-  pub brought : IsBrought state world from the_store message
+  pub brought : IsBrought state world from (nodes.Store store) message
   pub table_is : table ≡ part_table brought.p.part
-  pub ready : is_table_ready brought.v.world table ≡ true
+  pub takes : takes_at brought.v.world store table ≡ true
 
 -- what the table has of the row decides what a part comes to only where it is looked at
 abbrev pub IsViewFor : Wire → ℕ → Part → RowView → Type 0
@@ -66,9 +70,9 @@ IsViewFor v table part view = (hosted : Hosted) → hosted_at v.world table ≡ 
     → IsViewOf (chunk_in (schema_at v.world table)) hosted.store.disk.items (store_calls.client_of part)
     (store_calls.row_of part) view
 
-pub record IsSeenOf {D : Type 0} (state : D → DiskState) (world : World D) (from : Node) (table : ℕ)
+pub record IsSeenOf {D : Type 0} (state : D → DiskState) (world : World D) (store : ℕ) (from : Node) (table : ℕ)
     (seen : RowView) (message : Message) : Type 0 where
-  pub of_table : IsOfTable state world from table message
+  pub of_table : IsOfTable state world store from table message
   pub view : IsViewFor of_table.brought.v table of_table.brought.p.part seen
 
 -- what the part came to, and what is kept then
@@ -76,12 +80,12 @@ abbrev pub IsGatheredThere : StoreTaken → Option Gatherings → StoreTook → 
 IsGatheredThere x kept told = (store_calls.taken_of told ≡ x.taken) × HasGatheredThere x.gatherings kept
 
 -- it has come to this, and the world holds what is kept of it
-pub record IsGatheredAs {D : Type 0} (state : D → DiskState) (world : World D) (from : Node) (told : StoreTook)
-    : Type 0 where
+pub record IsGatheredAs {D : Type 0} (state : D → DiskState) (world : World D) (store : ℕ) (from : Node)
+    (told : StoreTook) : Type 0 where
   pub v : Wire
   pub p : PartPacket
-  pub sent : IsSentPart v from the_store p
-  pub ready : is_table_ready v.world (part_table p.part) ≡ true
+  pub sent : IsSentPart v from (nodes.Store store) p
+  pub takes : takes_at v.world store (part_table p.part) ≡ true
   pub hosted : Hosted
   pub there : hosted_at v.world (part_table p.part) ≡ Some hosted
   pub taken : store_calls.taken_of told ≡ (parted_at v p hosted.store.disk.items).taken

@@ -7,3 +7,4 @@ pub mod Calls
 pub mod Delivering
 pub mod Views
 pub mod Starting
+pub mod Sounds

@@ -1,12 +1,16 @@
 -- What the nodes told and sent, as lines and as parts on the network.
-use Rattle.std.specs.Prelude.{◌≡◌, ◌⊎◌, ℕ, ◌++◌, ◌<◌, List, [], map, length}
+use Rattle.std.specs.Prelude.{◌≡◌, ◌⊎◌, ℕ, ◌++◌, ◌<◌, List, [], map, length, Option}
 use Rattle.std.specs.List.{AllByRecursion, flat_map}
 use Rattle.disk_trait.specs.Calls.{DiskState}
+use Rattle.stab_base.specs.declared.node.Node.{Node}
+use Rattle.stab_base.specs.declared.node.Node.TheVariants as nodes
 use Rattle.table_model.specs.declared.line.TextLine.{TextLine}
 use Rattle.step_tables.specs.Facts.{FactLine}
 use Rattle.step_tables.specs.Lines.{line_of}
 use Rattle.step_tables.specs.Members.{Among}
-use Rattle.world_tables.specs.World.{World as AWorld, Packet, Outbox, WorldStep}
+use Rattle.step_tables.specs.Travels.{send_of}
+use Rattle.step_tables.specs.declared.message.Message.{Message}
+use Rattle.world_tables.specs.World.{World as AWorld, Packet, Outbox, WorldStep, owner_of, packets_from}
 use Rattle.store_host.specs.Holds as stores
 use Rattle.journal_host.specs.Holds as hosts
 use Rattle.fair_laws.specs.Reached as fair
@@ -37,11 +41,21 @@ parts_in w moves = flat_map (λ (out : Outbox). flat_map (split w) out.packets) 
 abbrev pub packets_in : List Outbox → List Packet
 packets_in moves = flat_map (λ (out : Outbox). out.packets) moves
 
--- the outboxes of moves that told or sent something
-abbrev pub outs_of : Outs → List Outbox
-outs_of outs.Nothing = []
-outs_of (outs.OfStore some) = stores.outs_in some
-outs_of (outs.OfClients some) = hosts.outs_in some
+-- the outboxes of moves that told or sent something, where these Stores keep the tables
+abbrev pub outs_of : (ℕ → ℕ) → Outs → List Outbox
+outs_of owners outs.Nothing = []
+outs_of owners (outs.OfStore some) = stores.outs_in some
+outs_of owners (outs.OfClients some) = hosts.outs_in owners some
+
+-- to whom a message without an address goes: to the Store that keeps its table, or the Store that sent it
+abbrev pub owners_for : AWorld → Node → ℕ → ℕ
+owners_for w (nodes.Store number) = λ table. number
+owners_for w (nodes.Client c) = owner_of w
+owners_for w (nodes.Gate gate) = owner_of w
+
+-- what a party sends
+abbrev pub packets_by : AWorld → Node → List (Option Node × Message) → List Packet
+packets_by w from messages = packets_from (owners_for w from) from (map send_of messages)
 
 -- ---- what is sent was sent in a world that a script leads to, whose tables' schemas the nodes have
 
@@ -96,7 +110,7 @@ pub record IsToTell {D : Type 0} (state : D → DiskState) (world : World D) (to
   pub s : WorldStep
   pub reached : fair.IsReached s.world
   pub lines_are : map line_of told.lines ≡ answer_lines s
-  pub outs_are : AreOuts told.outs s.outs
+  pub outs_are : AreOuts (owner_of s.world) told.outs s.outs
   pub held : NodesHold state s.world world.nodes
   pub packets : HasPackets world.network kept.packets
   pub memory : HoldsMemory (spread kept s).wire world.gathered world.arriving

@@ -5,26 +5,27 @@ ghost use Rattle.step_tables.specs.Facts as facts;
 ghost use Rattle.step_tables.specs.Facts.{AnswerLine};
 ghost use Rattle.step_tables.specs.Lines.{line_of};
 ghost use Rattle.table_model.specs.declared.event.Event.TheVariants as events;
-ghost use Rattle.world_tables.specs.World.{the_store};
+ghost use Rattle.world_tables.specs.World.{World as AWorld};
 ghost use Rattle.wire_tables.specs.Wire.{PartPacket, Wire, wire_step};
 ghost use Rattle.part_network.specs.Packets.{HasPackets};
 ghost use Rattle.node_steps.specs.declared.fault.WorldFault.TheVariants.{Memory};
+ghost use Rattle.node_steps.specs.Holds.{Holds as NodesHold};
 ghost use Rattle.wire_steps.specs.Holds.{Holds};
 ghost use Rattle.wire_steps.specs.Reached.{IsReached};
 ghost use Rattle.wire_steps.specs.Steps.{HavePlansBelow};
 ghost use Rattle.wire_steps.specs.Calls.{Comes, Ends, IsLimited};
 ghost use Rattle.wire_steps.specs.Delivering.{IsBrought, IsOfTable, IsSeenOf, IsGatheredAs, IsOfClient, IsOfOpened};
-ghost use Rattle.wire_steps.specs.Delivering.{IsHeldOfPart, IsArrivedAs, delivery};
+ghost use Rattle.wire_steps.specs.Delivering.{IsHeldOfPart, IsArrivedAs, delivery, takes_at};
 
 use crate::memory::{arrive, gather};
 use crate::parts::{any_of, table_of};
-use crate::sending::{STORE, chunk_of, scheme_of};
+use crate::sending::{chunk_of, scheme_of};
 use crate::world::World;
 use disk_trait::Disk;
 use node_steps::{Lines, Read, WorldFault};
 use part_client::RowHeld;
 use part_store::RowView;
-use stab_base::{ClientNo, Node, RowId, Sequence, TableNo};
+use stab_base::{ClientNo, Node, RowId, Sequence, StoreNo, TableNo};
 use table_model::{Answer, Message, Refusal};
 
 impl<D: Disk + Drop> World<D> {
@@ -72,49 +73,65 @@ impl<D: Disk + Drop> World<D> {
             → HavePlansBelow D.state (suc (suc (suc n))) self.new }
     {
         match to {
-            Node::Store(_) => self.bring_to_store(from, part),
+            Node::Store(store) => self.bring_to_store(store, from, part),
             Node::Client(client) => self.bring_to_client(client, from, part),
             Node::Gate(_) => self.bring(from, to, any_of(table_of(&part))),
         }
     }
 
-    // ---- to a table at the Store
+    // ---- to a table at a Store
 
-    fn bring_to_store(&mut self, from: Node, part: Message) -> Result<Lines, WorldFault>
-        requires brought { IsBrought D.state self.old from the_store part }
-        ensures done { (x : IsBrought D.state self.old from the_store part)
+    // Whether the Store keeps the table, and this takes a message now.
+    fn takes_at(&self, store: StoreNo, table: TableNo) -> bool
+        ensures { (w : AWorld) → NodesHold D.state w self.now.nodes → result ≡ takes_at w store table }
+    {
+        if self.nodes.owner(table) != store {
+            return false;
+        }
+        self.nodes.is_table_ready(table)
+    }
+
+    fn bring_to_store(
+        &mut self,
+        store: StoreNo,
+        from: Node,
+        part: Message,
+    ) -> Result<Lines, WorldFault>
+        requires brought { IsBrought D.state self.old from (nodes.Store store) part }
+        ensures done { (x : IsBrought D.state self.old from (nodes.Store store) part)
             → Comes D.state D.images x.v (delivery x.v x.sent) result self.old self.new }
-        ensures ends { (x : IsBrought D.state self.old from the_store part)
+        ensures ends { (x : IsBrought D.state self.old from (nodes.Store store) part)
             → Ends D.state D.images x.v (delivery x.v x.sent) result self.old self.new }
-        ensures limit { (x : IsBrought D.state self.old from the_store part) (n : ℕ)
+        ensures limit { (x : IsBrought D.state self.old from (nodes.Store store) part) (n : ℕ)
             → HavePlansBelow D.state n self.old → IsLimited n x.v.world result }
         ensures plans { (n : ℕ) → HavePlansBelow D.state n self.old → HavePlansBelow D.state (suc n) self.new }
     {
         let table = table_of(&part);
-        if !self.nodes.is_table_ready(table) {
-            return self.bring(from, STORE, any_of(table));
+        if !self.takes_at(store, table) {
+            return self.bring(from, Node::Store(store), any_of(table));
         }
-        self.bring_to_table(from, table, part)
+        self.bring_to_table(store, from, table, part)
     }
 
     // To one that takes messages now.
     fn bring_to_table(
         &mut self,
+        store: StoreNo,
         from: Node,
         table: TableNo,
         part: Message,
     ) -> Result<Lines, WorldFault>
-        requires brought { IsOfTable D.state self.old from table part }
-        ensures done { (x : IsOfTable D.state self.old from table part)
+        requires brought { IsOfTable D.state self.old store from table part }
+        ensures done { (x : IsOfTable D.state self.old store from table part)
             → Comes D.state D.images x.brought.v (delivery x.brought.v x.brought.sent) result self.old self.new }
-        ensures ends { (x : IsOfTable D.state self.old from table part)
+        ensures ends { (x : IsOfTable D.state self.old store from table part)
             → Ends D.state D.images x.brought.v (delivery x.brought.v x.brought.sent) result self.old self.new }
-        ensures limit { (x : IsOfTable D.state self.old from table part) (n : ℕ)
+        ensures limit { (x : IsOfTable D.state self.old store from table part) (n : ℕ)
             → HavePlansBelow D.state n self.old → IsLimited n x.brought.v.world result }
         ensures plans { (n : ℕ) → HavePlansBelow D.state n self.old → HavePlansBelow D.state (suc n) self.new }
     {
         match self.view(table, &part)? {
-            Read::Found(view) => self.gather_part(from, table, &view, part),
+            Read::Found(view) => self.gather_part(store, from, table, &view, part),
             Read::Fallen(told) => self.tell(told),
         }
     }
@@ -122,17 +139,18 @@ impl<D: Disk + Drop> World<D> {
     // What the table has of the row is known, as far as it decides what the part comes to.
     fn gather_part(
         &mut self,
+        store: StoreNo,
         from: Node,
         table: TableNo,
         view: &RowView,
         part: Message,
     ) -> Result<Lines, WorldFault>
-        requires seen { IsSeenOf D.state self.old from table view.now part }
-        ensures done { (x : IsSeenOf D.state self.old from table view.now part) → Comes D.state D.images
+        requires seen { IsSeenOf D.state self.old store from table view.now part }
+        ensures done { (x : IsSeenOf D.state self.old store from table view.now part) → Comes D.state D.images
             x.of_table.brought.v (delivery x.of_table.brought.v x.of_table.brought.sent) result self.old self.new }
-        ensures ends { (x : IsSeenOf D.state self.old from table view.now part) → Ends D.state D.images
+        ensures ends { (x : IsSeenOf D.state self.old store from table view.now part) → Ends D.state D.images
             x.of_table.brought.v (delivery x.of_table.brought.v x.of_table.brought.sent) result self.old self.new }
-        ensures limit { (x : IsSeenOf D.state self.old from table view.now part) (n : ℕ)
+        ensures limit { (x : IsSeenOf D.state self.old store from table view.now part) (n : ℕ)
             → HavePlansBelow D.state n self.old → IsLimited n x.of_table.brought.v.world result }
         ensures plans { (n : ℕ) → HavePlansBelow D.state n self.old → HavePlansBelow D.state (suc n) self.new }
     {
@@ -147,22 +165,27 @@ impl<D: Disk + Drop> World<D> {
             view,
             part,
         )?;
-        self.end_gathering(from, taken)
+        self.end_gathering(store, from, taken)
     }
 
     // A whole message is handed to the table; else the part is kept or dropped.
-    fn end_gathering(&mut self, from: Node, taken: part_store::Taken) -> Result<Lines, WorldFault>
-        requires taken { IsGatheredAs D.state self.old from taken }
-        ensures done { (x : IsGatheredAs D.state self.old from taken)
+    fn end_gathering(
+        &mut self,
+        store: StoreNo,
+        from: Node,
+        taken: part_store::Taken,
+    ) -> Result<Lines, WorldFault>
+        requires taken { IsGatheredAs D.state self.old store from taken }
+        ensures done { (x : IsGatheredAs D.state self.old store from taken)
             → Comes D.state D.images x.v (delivery x.v x.sent) result self.old self.new }
-        ensures ends { (x : IsGatheredAs D.state self.old from taken)
+        ensures ends { (x : IsGatheredAs D.state self.old store from taken)
             → Ends D.state D.images x.v (delivery x.v x.sent) result self.old self.new }
-        ensures limit { (x : IsGatheredAs D.state self.old from taken) (n : ℕ)
+        ensures limit { (x : IsGatheredAs D.state self.old store from taken) (n : ℕ)
             → HavePlansBelow D.state n self.old → IsLimited n x.v.world result }
         ensures plans { (n : ℕ) → HavePlansBelow D.state n self.old → HavePlansBelow D.state (suc n) self.new }
     {
         match taken {
-            part_store::Taken::Whole(message) => self.bring(from, STORE, message),
+            part_store::Taken::Whole(message) => self.bring(from, Node::Store(store), message),
             part_store::Taken::Waits => self.only(Answer::Done),
         }
     }

@@ -1,22 +1,22 @@
-//! What moves of the Store and of clients told and sent, as lines, and as parts on the network.
+//! What moves of Stores and of clients told and sent, as lines, and as parts on the network.
 ghost use Rattle.std.specs.Prelude.{◌≡◌, ◌++◌, ℕ, List, map, IfErr, OnOk};
 ghost use Rattle.step_tables.specs.Facts.{FactLine};
 ghost use Rattle.step_tables.specs.Lines.{line_of};
 ghost use Rattle.step_tables.specs.Lines as lines_told;
 ghost use Rattle.step_tables.specs.Members.{Among};
 ghost use Rattle.step_tables.specs.Messages.{table_of};
-ghost use Rattle.step_tables.specs.Travels.{message_of, send_of};
+ghost use Rattle.step_tables.specs.Travels.{message_of};
 ghost use Rattle.store_node.specs.Due.{fact_of};
 ghost use Rattle.store_host.specs.Holds as stores;
 ghost use Rattle.journal_host.specs.Holds as hosts;
-ghost use Rattle.world_tables.specs.World.{World as AWorld, schema_at, chunk_in, scheme_in, packets_from};
+ghost use Rattle.world_tables.specs.World.{World as AWorld, schema_at, chunk_in, scheme_in, owner_of, address};
 ghost use Rattle.wire_tables.specs.Wire.{PartPacket, split};
 ghost use Rattle.part_network.specs.Packets.{HasPackets};
 ghost use Rattle.node_steps.specs.declared.fault.WorldFault.TheVariants.{Memory};
 ghost use Rattle.node_steps.specs.Fits.{packet_with};
 ghost use Rattle.node_steps.specs.Holds.{Holds as NodesHold};
 ghost use Rattle.wire_steps.specs.Sending.{AllSent, AllOutsSent, IsSender, AreSent, IsToldOne, AreTold, IsSendFault};
-ghost use Rattle.wire_steps.specs.Sending.{IsOverFault, fault_of, parts_of, parts_in, outs_of};
+ghost use Rattle.wire_steps.specs.Sending.{IsOverFault, fault_of, parts_of, parts_in, outs_of, owners_for, packets_by};
 
 use disk_trait::Disk;
 use journal_host::ClientOut;
@@ -24,13 +24,11 @@ use node_steps::{Lines, Outs, World as Nodes, WorldFault};
 use part_network::{Network, NetworkFault};
 use row_value::Scheme;
 use send_laws::know_widths;
-use stab_base::{Node, Sequence, TableNo};
+use stab_base::{Node, Sequence, StoreNo, TableNo};
 use step_tables::{Addressed, Message, Out};
+use store_host::TableOut;
 use store_node::{StoreFact, StoreOut};
 use table_model::{Fact, Facts, TextLine};
-
-/// The one Store, which owns every table.
-pub(crate) const STORE: Node = Node::Store(1);
 
 // The table that a message is about.
 fn table_in(message: &Message) -> TableNo
@@ -78,6 +76,32 @@ fn fault_of(fault: NetworkFault) -> WorldFault
     }
 }
 
+// The Store that a message without an address is for: the one that keeps its table. What a Store sends has an address.
+fn keeper<D: Disk + Drop>(nodes: &Nodes<D>, from: Node, table: TableNo) -> StoreNo
+    ensures { (w : AWorld) → NodesHold D.state w nodes.now → result ≡ owners_for w from table }
+{
+    match from {
+        Node::Store(number) => number,
+        Node::Client(_) | Node::Gate(_) => nodes.owner(table),
+    }
+}
+
+// The node that a message is for.
+fn address<D: Disk + Drop>(
+    nodes: &Nodes<D>,
+    from: Node,
+    to: Option<Node>,
+    message: &Message,
+) -> Node
+    ensures { (w : AWorld) → NodesHold D.state w nodes.now
+        → result ≡ address (owners_for w from) to (message_of message.now) }
+{
+    match to {
+        Some(node) => node,
+        None => Node::Store(keeper(nodes, from, table_in(message))),
+    }
+}
+
 // Sends a message in parts, and adds the line of each.
 fn send<D: Disk + Drop>(
     nodes: &Nodes<D>,
@@ -110,16 +134,17 @@ fn send_all<D: Disk + Drop>(
     messages: Sequence<Addressed>,
     lines: &mut Lines,
 ) -> Result<(), WorldFault>
-    requires sent { (w : AWorld) × IsSender D.state nodes.now w × AllSent w (packets_from from (map send_of messages)) }
+    requires sent { (w : AWorld) × IsSender D.state nodes.now w × AllSent w (packets_by w from messages) }
     ensures sent { (w : AWorld) (ps : List PartPacket) → NodesHold D.state w nodes.now → HasPackets network.old ps
-        → OnOk result (AreSent ps (parts_of w (packets_from from (map send_of messages))) network.new lines.old
+        → OnOk result (AreSent ps (parts_of w (packets_by w from messages)) network.new lines.old
         lines.new) }
     ensures over { (w : AWorld) (ps : List PartPacket) → NodesHold D.state w nodes.now → HasPackets network.old ps
-        → IfErr result (IsOverFault (ps ++ parts_of w (packets_from from (map send_of messages)))) }
+        → IfErr result (IsOverFault (ps ++ parts_of w (packets_by w from messages))) }
     ensures only { IfErr result IsSendFault }
 {
     for (to, message) in messages.into_vec() {
-        send(nodes, network, from, to.unwrap_or(STORE), message, lines)?;
+        let to = address(nodes, from, to, &message);
+        send(nodes, network, from, to, message, lines)?;
     }
     Ok(())
 }
@@ -156,11 +181,11 @@ fn tell_facts(facts: Facts, lines: &mut Lines) -> Result<(), WorldFault>
     Ok(())
 }
 
-// The facts of one move of the Store, and then its packets.
+// The facts of one move of a Store, and then its packets.
 fn tell_store_move<D: Disk + Drop>(
     nodes: &Nodes<D>,
     network: &mut Network,
-    out: StoreOut,
+    out: TableOut,
     lines: &mut Lines,
 ) -> Result<(), WorldFault>
     requires sent { (w : AWorld) × IsSender D.state nodes.now w × AllSent w (stores.outbox_of out).packets }
@@ -170,16 +195,17 @@ fn tell_store_move<D: Disk + Drop>(
         → IfErr result (IsOverFault (ps ++ parts_of w (stores.outbox_of out).packets)) }
     ensures only { IfErr result IsSendFault }
 {
+    let TableOut { store, out } = out;
     let StoreOut { messages, facts } = out;
     tell_store_facts(facts, lines)?;
-    send_all(nodes, network, STORE, messages, lines)
+    send_all(nodes, network, Node::Store(store), messages, lines)
 }
 
-// Adds the facts of each move of the Store, and then its packets, each with its line.
+// Adds the facts of each move of Stores, and then its packets, each with its line.
 fn tell_store<D: Disk + Drop>(
     nodes: &Nodes<D>,
     network: &mut Network,
-    outs: Sequence<StoreOut>,
+    outs: Sequence<TableOut>,
     lines: &mut Lines,
 ) -> Result<(), WorldFault>
     requires sent { (w : AWorld) × IsSender D.state nodes.now w × AllOutsSent w (stores.outs_in outs) }
@@ -202,11 +228,11 @@ fn tell_client_move<D: Disk + Drop>(
     out: ClientOut,
     lines: &mut Lines,
 ) -> Result<(), WorldFault>
-    requires sent { (w : AWorld) × IsSender D.state nodes.now w × AllSent w (hosts.outbox_of out).packets }
+    requires sent { (w : AWorld) × IsSender D.state nodes.now w × AllSent w (hosts.outbox_of (owner_of w) out).packets }
     ensures told { (w : AWorld) (ps : List PartPacket) → NodesHold D.state w nodes.now → HasPackets network.old ps
-        → OnOk result (IsToldOne w ps (hosts.outbox_of out) network.new lines.old lines.new) }
+        → OnOk result (IsToldOne w ps (hosts.outbox_of (owner_of w) out) network.new lines.old lines.new) }
     ensures over { (w : AWorld) (ps : List PartPacket) → NodesHold D.state w nodes.now → HasPackets network.old ps
-        → IfErr result (IsOverFault (ps ++ parts_of w (hosts.outbox_of out).packets)) }
+        → IfErr result (IsOverFault (ps ++ parts_of w (hosts.outbox_of (owner_of w) out).packets)) }
     ensures only { IfErr result IsSendFault }
 {
     let ClientOut { client, out } = out;
@@ -222,11 +248,11 @@ fn tell_clients<D: Disk + Drop>(
     outs: Sequence<ClientOut>,
     lines: &mut Lines,
 ) -> Result<(), WorldFault>
-    requires sent { (w : AWorld) × IsSender D.state nodes.now w × AllOutsSent w (hosts.outs_in outs) }
+    requires sent { (w : AWorld) × IsSender D.state nodes.now w × AllOutsSent w (hosts.outs_in (owner_of w) outs) }
     ensures told { (w : AWorld) (ps : List PartPacket) → NodesHold D.state w nodes.now → HasPackets network.old ps
-        → OnOk result (AreTold w ps (hosts.outs_in outs) network.new lines.old lines.new) }
+        → OnOk result (AreTold w ps (hosts.outs_in (owner_of w) outs) network.new lines.old lines.new) }
     ensures over { (w : AWorld) (ps : List PartPacket) → NodesHold D.state w nodes.now → HasPackets network.old ps
-        → IfErr result (IsOverFault (ps ++ parts_in w (hosts.outs_in outs))) }
+        → IfErr result (IsOverFault (ps ++ parts_in w (hosts.outs_in (owner_of w) outs))) }
     ensures only { IfErr result IsSendFault }
 {
     for out in outs.into_vec() {
@@ -242,11 +268,11 @@ pub(crate) fn tell_outs<D: Disk + Drop>(
     outs: Outs,
     lines: &mut Lines,
 ) -> Result<(), WorldFault>
-    requires sent { (w : AWorld) × IsSender D.state nodes.now w × AllOutsSent w (outs_of outs) }
+    requires sent { (w : AWorld) × IsSender D.state nodes.now w × AllOutsSent w (outs_of (owner_of w) outs) }
     ensures told { (w : AWorld) (ps : List PartPacket) → NodesHold D.state w nodes.now → HasPackets network.old ps
-        → OnOk result (AreTold w ps (outs_of outs) network.new lines.old lines.new) }
+        → OnOk result (AreTold w ps (outs_of (owner_of w) outs) network.new lines.old lines.new) }
     ensures over { (w : AWorld) (ps : List PartPacket) → NodesHold D.state w nodes.now → HasPackets network.old ps
-        → IfErr result (IsOverFault (ps ++ parts_in w (outs_of outs))) }
+        → IfErr result (IsOverFault (ps ++ parts_in w (outs_of (owner_of w) outs))) }
     ensures only { IfErr result IsSendFault }
 {
     match outs {

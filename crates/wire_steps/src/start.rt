@@ -1,14 +1,16 @@
 //! Events of the nodes alone. What is in memory of a node is lost where it is started.
-ghost use Rattle.std.specs.Prelude.{◌≡◌, ◌≢◌, ◌⊎◌, ◌+◌, ℕ, IfErr, IfOk, OnOk};
+ghost use Rattle.std.specs.Prelude.{◌≡◌, ◌≢◌, ◌⊎◌, ◌+◌, ℕ, None, IfErr, IfOk, OnOk, if◌then◌else◌};
+ghost use Rattle.std.specs.BTreeMap as tree;
+ghost use Rattle.std.specs.Ordering.{nat_cmp};
 ghost use Rattle.disk_trait.specs.Calls.{IsCounted};
 ghost use Rattle.step_tables.specs.Lines.{fact_of};
-ghost use Rattle.world_tables.specs.World.{World as AWorld};
+ghost use Rattle.world_tables.specs.World.{World as AWorld, hosted_at};
 ghost use Rattle.world_laws.specs.Begun.{IsSingle};
 ghost use Rattle.fair_laws.specs.Reached.{IsBuilt};
 ghost use Rattle.journal_host.specs.Holds as hosts;
 ghost use Rattle.part_tables.specs.Arriving as arrivals;
 ghost use Rattle.part_client.specs.Keeping.{Keeps};
-ghost use Rattle.wire_tables.specs.Wire.{Wire, noting, torn_by_fact, torn_told};
+ghost use Rattle.wire_tables.specs.Wire.{Wire, noting, torn_by_fact, torn_told, is_hosted_up};
 ghost use Rattle.node_steps.specs.declared.fault.WorldFault.TheVariants.{Depot as DepotFailed, Memory};
 ghost use Rattle.node_steps.specs.declared.fault.WorldFault.TheVariants.{Limit as LimitPassed};
 ghost use Rattle.node_steps.specs.Fits.{IsOwn};
@@ -17,17 +19,19 @@ ghost use Rattle.wire_steps.specs.Holds.{Holds, IsWorld};
 ghost use Rattle.wire_steps.specs.Kinds.{started};
 ghost use Rattle.wire_steps.specs.Reached.{IsReached};
 ghost use Rattle.wire_steps.specs.Sending.{outs_of};
-ghost use Rattle.wire_steps.specs.Starting.{if_down, Forgets, ForgetsOf, ForgetsStore, NotesTorn, noted_in};
+ghost use Rattle.wire_steps.specs.Starting.{if_down, HasForgotten, Forgets, Notes, NotesOf, NotesTorn, noted_in};
 ghost use Rattle.wire_steps.specs.Steps.{HavePlansBelow, IsStep, IsOver, IsUndone, Spends, may_begin};
 
 use crate::kinds::started;
 use crate::world::World;
 use disk_trait::{Depot, Disk};
 use journal_host::ClientOut;
-use node_steps::{Lines, Outs, WorldFault};
+use node_steps::{Lines, Outs, World as Nodes, WorldFault};
 use part_client::Arriving;
-use stab_base::{ClientNo, Node, StoreNo};
+use part_store::Gatherings;
+use stab_base::{ClientNo, Node, TableNo};
 use std::alloc::AllocError;
+use std::collections::BTreeMap;
 use table_model::{Event, Fact};
 
 // ---- the rows that a client tells as torn
@@ -59,8 +63,8 @@ fn note_facts(it: &mut Arriving, facts: &[Fact]) -> Result<(), AllocError>
 }
 
 fn note_moves(it: &mut Arriving, moves: &[ClientOut]) -> Result<(), AllocError>
-    ensures { (a : arrivals.Arriving) → Keeps it.old a
-        → OnOk result (Keeps it.new (noting (torn_told (hosts.outs_in moves.now)) a)) }
+    ensures { (owners : ℕ → ℕ) (a : arrivals.Arriving) → Keeps it.old a
+        → OnOk result (Keeps it.new (noting (torn_told (hosts.outs_in owners moves.now)) a)) }
 {
     for out in moves {
         note_facts(it, out.out.facts.as_slice())?;
@@ -68,10 +72,10 @@ fn note_moves(it: &mut Arriving, moves: &[ClientOut]) -> Result<(), AllocError>
     Ok(())
 }
 
-// The Store tells none.
+// Stores tell none.
 fn note_outs(it: &mut Arriving, outs: &Outs) -> Result<(), AllocError>
-    ensures { (a : arrivals.Arriving) → Keeps it.old a
-        → OnOk result (Keeps it.new (noting (torn_told (outs_of outs.now)) a)) }
+    ensures { (owners : ℕ → ℕ) (a : arrivals.Arriving) → Keeps it.old a
+        → OnOk result (Keeps it.new (noting (torn_told (outs_of owners outs.now)) a)) }
 {
     match outs {
         Outs::Nothing => Ok(()),
@@ -80,9 +84,37 @@ fn note_outs(it: &mut Arriving, outs: &Outs) -> Result<(), AllocError>
     }
 }
 
+// Keeps what tables that are up have gathered.
+fn keep_up<D: Disk + Drop>(nodes: &Nodes<D>, gathered: &mut BTreeMap<TableNo, Gatherings>)
+    ensures { (w : AWorld) → NodesHold D.state w nodes.now → (table : ℕ) → tree.get nat_cmp gathered.new table
+        ≡ (if is_hosted_up (hosted_at w table) then tree.get nat_cmp gathered.old table else None) }
+{
+    gathered.retain(|table, _| nodes.is_table_up(*table));
+}
+
 impl<D: Disk + Drop> World<D> {
+    // What tables that are down had gathered is forgotten.
+    fn forget_gathered(&mut self)
+        ensures held { (v : Wire) → Holds D.state v self.old
+            → Holds D.state v self.new × HasForgotten v.world self.new }
+        ensures nodes { self.new.nodes ≡ self.old.nodes }
+    {
+        keep_up(&self.nodes, &mut self.gathered);
+    }
+
+    // Before a node is started.
+    fn forget(&mut self, node: Option<Node>)
+        ensures held { (v : Wire) → Holds D.state v self.old
+            → Holds D.state v self.new × Forgets node v.world self.new }
+        ensures nodes { self.new.nodes ≡ self.old.nodes }
+    {
+        if let Some(Node::Store(_)) = node {
+            self.forget_gathered();
+        }
+    }
+
     // A client that is started keeps the rows that it tells as torn.
-    fn note(&mut self, client: ClientNo, outs: &Outs) -> Result<(), AllocError>
+    fn note_torn(&mut self, client: ClientNo, outs: &Outs) -> Result<(), AllocError>
         ensures notes { OnOk result (NotesTorn client outs.now self.old self.new) }
         ensures nodes { self.new.nodes ≡ self.old.nodes }
     {
@@ -92,39 +124,27 @@ impl<D: Disk + Drop> World<D> {
         Ok(())
     }
 
-    // A Store that is started has gathered nothing.
-    fn forget_gathered(&mut self, store: StoreNo)
-        ensures forgets { ForgetsStore store self.old self.new }
+    // Behind a start.
+    fn note_start(&mut self, node: Option<Node>, outs: &Outs) -> Result<(), AllocError>
+        ensures notes { OnOk result (NotesOf node outs.now self.old self.new) }
         ensures nodes { self.new.nodes ≡ self.old.nodes }
     {
-        if store == 1 {
+        match node {
+            Some(Node::Client(client)) => self.note_torn(client, outs),
+            _ => Ok(()),
+        }
+    }
+
+    // Behind an event. Where a Store joins what was gathered is lost.
+    fn note(&mut self, event: &Event, node: Option<Node>, outs: &Outs) -> Result<(), AllocError>
+        ensures notes { OnOk result (Notes event.now node outs.now self.old self.new) }
+        ensures nodes { self.new.nodes ≡ self.old.nodes }
+    {
+        if let Event::Store { .. } = event {
             self.gathered.clear();
+            return Ok(());
         }
-    }
-
-    // What is in memory of a node that is started.
-    fn forget_node(&mut self, node: Node, outs: &Outs) -> Result<(), AllocError>
-        ensures forgets { OnOk result (ForgetsOf node outs.now self.old self.new) }
-        ensures nodes { self.new.nodes ≡ self.old.nodes }
-    {
-        match node {
-            Node::Store(store) => {
-                self.forget_gathered(store);
-                Ok(())
-            }
-            Node::Client(client) => self.note(client, outs),
-            Node::Gate(_) => Ok(()),
-        }
-    }
-
-    fn forget(&mut self, node: Option<Node>, outs: &Outs) -> Result<(), AllocError>
-        ensures forgets { OnOk result (Forgets node outs.now self.old self.new) }
-        ensures nodes { self.new.nodes ≡ self.old.nodes }
-    {
-        match node {
-            Some(node) => self.forget_node(node, outs),
-            None => Ok(()),
-        }
+        self.note_start(node, outs)
     }
 
     // The node that is down and to be started.
@@ -169,8 +189,9 @@ impl<D: Disk + Drop> World<D> {
         ensures depot { IsCounted DepotFailed (P.state depot.old).faults (P.state depot.new).faults result }
     {
         let restarted = self.restarted(event);
+        self.forget(restarted);
         let told = self.nodes.step(depot, event)?;
-        self.forget(restarted, &told.outs)?;
+        self.note(event, restarted, &told.outs)?;
         self.tell(told)
     }
 }

@@ -15,7 +15,7 @@ ghost use Rattle.part_client.specs.Calls as at_client;
 ghost use Rattle.part_client.specs.Held.{IsHeldOf};
 ghost use Rattle.client_node.specs.HeldRows.{row_held};
 ghost use Rattle.store_node.specs.Calls.{IsRow, IsRowAt};
-ghost use Rattle.world_tables.specs.World.{owner, hosted_at, store_falls, client_falls, chunk_in, schema_at};
+ghost use Rattle.world_tables.specs.World.{owner_of, hosted_at, store_falls, client_falls, chunk_in, schema_at};
 ghost use Rattle.world_tables.specs.World as wholes;
 ghost use Rattle.world_tables.specs.Ready.{is_table_ready, is_client_ready};
 ghost use Rattle.wire_tables.specs.Wire.{Wire};
@@ -42,7 +42,7 @@ use step_tables::Yours;
 use store_node::WholeRow;
 use table_model::Message;
 
-// ---- what a table at the Store has of a row
+// ---- what a table at its Store has of a row
 
 // Adds the chunks of an object, each under its name.
 fn add_chunks(
@@ -214,7 +214,7 @@ impl<D: Disk + Drop> World<D> {
     ) -> Result<Read<RowView>, WorldFault>
         requires held { (v : Wire) × IsReached v × Holds D.state v self.old × (is_table_ready v.world table ≡ true) }
         ensures seen { (v : Wire) → IsReached v → Holds D.state v self.old → is_table_ready v.world table ≡ true
-            → IfOk result (Sees D.state D.images v (store_falls owner v.world)
+            → IfOk result (Sees D.state D.images v (store_falls (owner_of v.world table) v.world)
             (λ view. (hosted : wholes.Hosted) → hosted_at v.world table ≡ Some hosted
             → IsViewOf (chunk_in (schema_at v.world table)) hosted.store.disk.items client row.now view) self.old
             self.new) }
@@ -237,8 +237,8 @@ impl<D: Disk + Drop> World<D> {
         requires held { (v : Wire) × IsReached v × Holds D.state v self.old × (is_table_ready v.world table ≡ true) }
         ensures seen { (v : Wire) (p : Part) → IsReached v → Holds D.state v self.old
             → is_table_ready v.world table ≡ true → part_of part.now ≡ Some p
-            → IfOk result (Sees D.state D.images v (store_falls owner v.world) (IsViewFor v table p) self.old
-            self.new) }
+            → IfOk result (Sees D.state D.images v (store_falls (owner_of v.world table) v.world) (IsViewFor v table p)
+            self.old self.new) }
         ensures plans { (n : ℕ) → HavePlansBelow D.state n self.old → HavePlansBelow D.state n self.new }
         ensures memory { IfErr result (λ e. e ≡ Memory) }
     {

@@ -1,13 +1,17 @@
 //! The world: the nodes, and the network between them, whose packets are parts of messages.
-ghost use Rattle.std.specs.Prelude.{◌≡◌, ◌≢◌, ◌⊎◌, ℕ, ◌+◌, IfOk, IfErr};
+ghost use Rattle.std.specs.Prelude.{◌≡◌, ◌≢◌, ◌⊎◌, ℕ, ◌+◌, List, IfOk, IfErr};
 ghost use Rattle.disk_trait.specs.Calls.{IsCounted};
+ghost use Rattle.world_tables.specs.Turns.{Happening};
 ghost use Rattle.wire_tables.specs.Wire.{Wire, start};
+ghost use Rattle.wire_tables.specs.Runs.{wire_from};
+ghost use Rattle.wire_laws.specs.Runs.{AreBuilt};
 ghost use Rattle.node_steps.specs.declared.fault.WorldFault.TheVariants.{Depot as DepotFailed, Memory};
 ghost use Rattle.node_steps.specs.declared.fault.WorldFault.TheVariants.{Limit as LimitPassed};
 ghost use Rattle.fair_laws.specs.Reached.{IsBuilt};
 ghost use Rattle.node_steps.specs.Holds.{AreOut};
 ghost use Rattle.wire_steps.specs.Reached.{IsReached};
 ghost use Rattle.wire_steps.specs.Holds.{Holds, IsWorld};
+ghost use Rattle.wire_steps.specs.Sounds.{GoesOnSound};
 ghost use Rattle.wire_steps.specs.Steps.{HavePlansBelow, IsStep, IsOver, IsUndone, IsWhole, Spends, may_begin};
 
 use crate::kinds::{Kind, kind_of};
@@ -67,6 +71,9 @@ impl<D: Disk + Drop> World<D> {
             → AreOut (P.state depot.old).is_out v.world
             → IfOk result (λ lines. IsStep D.state D.images v event.now lines (P.state depot.new).is_out self.old
             self.new) }
+        ensures sound { (run : List Happening) → AreBuilt run → Holds D.state (wire_from start run) self.old
+            → AreOut (P.state depot.old).is_out (wire_from start run).world
+            → IfOk result (λ lines. GoesOnSound run event.now lines) }
         ensures over { (v : Wire) → IsReached v → Holds D.state v self.old
             → AreOut (P.state depot.old).is_out v.world
             → IfErr result (λ e. (count : ℕ) → e ≡ LimitPassed 10 count

@@ -10,8 +10,8 @@ returns-in-Err-Disk-clause-added g c w h =
     let k = c.in-Err-Disk.ensures in (
       messages.FailedBefore,
       k.failed w h cc,
-      some_failed g.D.Disk.state c.args.store.now.tables c.add.new.self.tables _ refl
-          (added_badly g.D.Disk.state c.args.store.now.tables c.add.new.self.tables c.args.table 0 c.requires.absent
+      some_failed g.D.Disk.state c.args.stores.now.tables c.add.new.self.tables _ refl
+          (added_badly g.D.Disk.state c.args.stores.now.tables c.add.new.self.tables c.args.table 0 c.requires.absent
           (subst (λ (n : ℕ). n < faults_at g.D.Disk.state c.add.new.self.tables c.args.table) c.requires.sound (k.cause cc)) (λ q no. k.others_failed q no cc)),
     )
 

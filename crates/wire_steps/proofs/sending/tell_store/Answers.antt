@@ -1,7 +1,7 @@
 use Rattle.std.proofs.Common.{List, sym, ◌∙◌, ap, subst}
 use Rattle.std.proofs.lemmas.List.{nil_from_length}
 use Rattle.std.proofs.lemmas.Result.{err_from_is_err_and}
-use Rattle.store_node.specs.declared.node.StoreOut.{StoreOut}
+use Rattle.store_host.specs.declared.hosted.TableOut.{TableOut}
 use Rattle.store_host.specs.Holds.{outbox_of, outs_in}
 use Rattle.world_tables.specs.World.{Outbox}
 use Rattle.wire_steps.specs.Sending.{AllOutsSent}
@@ -13,7 +13,7 @@ loop-out-preserved g c =
     let inv = c.loop-out.invariant in
     let all = outs_in c.args.outs in
     let rest = outs_in c.next.new.self.rest.items in
-    let is = ap (λ (items : List StoreOut). outs_in items) c.in-Some.ensures.steps.0 in
+    let is = ap (λ (items : List TableOut). outs_in items) c.in-Some.ensures.steps.0 in
     record {
       sent = (inv.sent.0, inv.sent.1, (subst (AllOutsSent inv.sent.0) is inv.sent.2).1);
       told = λ w ps held h.
@@ -25,7 +25,7 @@ loop-out-preserved g c =
 pub returns-in_err-tell_store_move-clause-over : goal.returns-in_err-tell_store_move-clause-over
 returns-in_err-tell_store_move-clause-over g c w ps held h =
     let all = outs_in c.args.outs in
-    let is = ap (λ (items : List StoreOut). outs_in items) c.in-Some.ensures.steps.0 in
+    let is = ap (λ (items : List TableOut). outs_in items) c.in-Some.ensures.steps.0 in
     let s = subst (λ (l : List Outbox). TellsOn w ps all l c.loop-out.network c.args.lines.now c.loop-out.lines) is (c.loop-out.invariant.told w ps held h) in
     let p = err_from_is_err_and c.from_residual.result c.from_residual.ensures.1 in
     rw (p.1, p.2) (tells_over w ps all c.args.lines.now (outbox_of c.in-Some.out) (outs_in c.next.new.self.rest.items) c.loop-out.network c.loop-out.lines s c.in_err-tell_store_move.field-0.0
@@ -35,5 +35,5 @@ pub returns-clause-told : goal.returns-clause-told
 returns-clause-told g c w ps held h =
     let all = outs_in c.args.outs in
     tells_all w ps all c.args.lines.now c.loop-out.network c.loop-out.lines
-    (subst (λ (items : List StoreOut). TellsOn w ps all (outs_in items) c.loop-out.network c.args.lines.now c.loop-out.lines)
+    (subst (λ (items : List TableOut). TellsOn w ps all (outs_in items) c.loop-out.network c.args.lines.now c.loop-out.lines)
     (nil_from_length _ (sym c.loop-out.out-iterator.rest.ok.0 ∙ c.in-None.ensures.steps.0)) (c.loop-out.invariant.told w ps held h))

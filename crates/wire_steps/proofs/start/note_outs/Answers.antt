@@ -7,6 +7,6 @@ use Rattle.wire_steps.proofs.Started.{store_torn}
 use Rattle.wire_steps.proofs.start.note_outs.Goals as goal
 
 pub returns-in-OfStore : goal.returns-in-OfStore
-returns-in-OfStore c a k =
+returns-in-OfStore c owners a k =
     subst (λ (torn : List (ℕ × List ℕ)). Keeps c.args.it.now (noting torn a))
-    (sym (ap (λ (o : Outs). torn_told (outs_of o)) c.in-OfStore.is ∙ store_torn c.in-OfStore.field-0)) k
+    (sym (ap (λ (o : Outs). torn_told (outs_of owners o)) c.in-OfStore.is ∙ store_torn c.in-OfStore.field-0)) k

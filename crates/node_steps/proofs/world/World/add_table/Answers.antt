@@ -27,14 +27,14 @@ hand_out_three-requires-clause-free g c =
 pub returns-clause-done : goal.returns-clause-done
 returns-clause-done g c w reached h out =
     let event = events.Table c.args.table c.args.schema.now in
-    let new = record c.args.self.now { schemas = c.insert.new.self; store = c.add.new.store } in
+    let new = record c.args.self.now { schemas = c.insert.new.self; store = c.add.new.stores } in
     made_ok g.D.Disk.state g.D.Disk.images w c.args.table c.args.schema.now (g.P.Depot.state c.args.depot.now).is_out (g.P.Depot.state c.hand_out_three.new.depot).is_out c.silent.result c.silent.ensures c.args.self.now c.insert.new.self
-    c.add.new.store h out (not_there g.D.Disk.state w c.args.table c.args.self.now h c.requires.absent) (c.requires.made.least, c.requires.made.most)
+    c.add.new.stores h out (not_there g.D.Disk.state w c.args.table c.args.self.now h c.requires.absent) (c.requires.made.least, c.requires.made.most)
     (subst (λ (s : Schema). (q : ℕ) → tree.get nat_cmp c.insert.new.self q ≡ cond (is_at (nat_cmp c.args.table) q) (Some s) (tree.get nat_cmp c.args.self.now.schemas q)) c.in_ok-known.ensures
     c.in_ok-insert.ensures.updates.0) c.in_ok-disks.ensures.out
-    (subst (λ (s : Schema). (luck : Luck) × HoldsStore g.D.Disk.state (made_with w c.args.table s luck) c.add.new.store
-    × IsCounted g.D.Disk.state (is_failure luck) c.args.self.now.store.tables c.add.new.store.tables) c.in_ok-own.ensures (c.in_ok-add.ensures.added w h.store))
+    (subst (λ (s : Schema). (luck : Luck) × HoldsStore g.D.Disk.state (made_with w c.args.table s luck) c.add.new.stores
+    × IsCounted g.D.Disk.state (is_failure luck) c.args.self.now.store.tables c.add.new.stores.tables) c.in_ok-own.ensures (c.in_ok-add.ensures.added w h.store))
     c.in_ok-add.ensures.outs
     (λ lucks. stay_over g.D.Disk.state g.D.Disk.images w reached event lucks c.args.self.now new
-    (over_first g.D.Disk.state g.D.Disk.images w (first_part w event lucks) c.args.self.now.store.tables c.add.new.store.tables
-    (still_left g.D.Disk.state g.D.Disk.images w c.args.self.now.store.tables c.add.new.store.tables (c.in_ok-add.ensures.rows w h.store))))
+    (over_first g.D.Disk.state g.D.Disk.images w (first_part w event lucks) c.args.self.now.store.tables c.add.new.stores.tables
+    (still_left g.D.Disk.state g.D.Disk.images w c.args.self.now.store.tables c.add.new.stores.tables (c.in_ok-add.ensures.rows w h.store))))

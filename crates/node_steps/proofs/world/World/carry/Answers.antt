@@ -1,14 +1,12 @@
-use Rattle.std.proofs.Common.{◌≡◌, ◌⊎◌, inl, inr, ℕ, refl, sym, ◌∙◌, ap, subst}
+use Rattle.std.proofs.Common.{◌⊎◌, inl, inr, ℕ, refl, sym, subst}
 use Rattle.std.specs.Prelude.{IfOk}
 use Rattle.stab_base.specs.declared.node.Node.{Node}
-use Rattle.stab_base.specs.declared.node.Node.TheVariants as nodes
 use Rattle.step_tables.specs.Facts as facts
-use Rattle.world_tables.specs.World.{carried, the_store}
+use Rattle.world_tables.specs.World.{carried}
 use Rattle.world_tables.specs.Passed.{taken_by}
 use Rattle.store_host.specs.Holds.{AreLeft}
 use Rattle.node_steps.specs.Calls.{Comes}
 use Rattle.node_steps.specs.Fits.{FitsNode, packet_with}
-use Rattle.node_steps.specs.Places.{IsPlace}
 use Rattle.node_steps.specs.Rows.{AreLeftOver}
 use Rattle.node_steps.specs.Steps.{IsFull, SpendsNumber}
 use Rattle.node_steps.proofs.Clients.{either_spent, plans_more}
@@ -17,14 +15,10 @@ use Rattle.node_steps.proofs.Done.{stays}
 use Rattle.node_steps.proofs.Rows.{any_ok, same_tables, none_left, over_first_ok}
 use Rattle.node_steps.proofs.world.World.carry.Goals as goal
 
--- a Store that a message may be for is the one
-the_one : (to : Node) (n : ℕ) → to ≡ nodes.Store n → IsPlace to → to ≡ the_store
-the_one to n is place = is ∙ ap nodes.Store (subst IsPlace is place)
-
 pub carry_to_store-requires : goal.carry_to_store-requires
 carry_to_store-requires g c =
     let k = c.requires.held in
-    record { held = (k.0, k.1, subst (λ (n : Node). FitsNode k.0 n c.args.message) (the_one c.args.to _ c.in-Store.is c.requires.place) k.2) }
+    record { held = (k.0, k.1, subst (λ (n : Node). FitsNode k.0 n c.args.message) c.in-Store.is k.2) }
 
 pub carry_to_client-requires : goal.carry_to_client-requires
 carry_to_client-requires g c =
@@ -32,7 +26,7 @@ carry_to_client-requires g c =
 
 pub returns-in-Store-clause-done : goal.returns-in-Store-clause-done
 returns-in-Store-clause-done g c w h fits =
-    let is = the_one c.args.to _ c.in-Store.is c.requires.place in
+    let is = c.in-Store.is in
     subst (λ (n : Node). Comes g.D.Disk.state w (λ lucks. carried w (packet_with c.args.from n c.args.message) lucks.shape lucks.calls n) c.carry_to_store.result c.carry_to_store.new.self)
     (sym is) (c.carry_to_store.ensures.done w h (subst (λ (n : Node). FitsNode w n c.args.message) is fits))
 
@@ -53,7 +47,7 @@ returns-in-Gate-clause-counted g c =
 
 pub returns-in-Store-clause-rows : goal.returns-in-Store-clause-rows
 returns-in-Store-clause-rows g c w h fits =
-    let is = the_one c.args.to _ c.in-Store.is c.requires.place in
+    let is = c.in-Store.is in
     subst (λ (n : Node). IfOk c.carry_to_store.result
     (λ told. AreLeftOver g.D.Disk.state g.D.Disk.images w (taken_by w (packet_with c.args.from n c.args.message) n) c.args.self.now.store.tables c.carry_to_store.new.self.store.tables))
     (sym is) (c.carry_to_store.ensures.rows w h (subst (λ (n : Node). FitsNode w n c.args.message) is fits))

@@ -1,29 +1,31 @@
 use Rattle.std.proofs.Common.{sym, ◌∙◌, refl}
+use Rattle.stab_base.specs.declared.node.Node.TheVariants as nodes
 use Rattle.step_tables.specs.Messages.{table_of}
 use Rattle.step_tables.specs.StoreMoves.{Take}
 use Rattle.step_tables.specs.Travels.{message_of}
-use Rattle.world_tables.specs.World.{to_hosted, hosted_at, the_store, move_table}
+use Rattle.world_tables.specs.World.{to_hosted, hosted_by}
+use Rattle.world_tables.specs.Passed.{taken_by}
 use Rattle.store_host.specs.Holds.{AreLeft}
+use Rattle.node_steps.specs.Fits.{packet_with}
 use Rattle.node_steps.proofs.Counted.{only_counted}
-use Rattle.node_steps.proofs.Done.{down_refused, up_goes_on, up_now}
+use Rattle.node_steps.proofs.Done.{down_refused, up_goes_on}
 use Rattle.node_steps.proofs.Rows.{any_ok, none_left, over_first_ok}
 use Rattle.node_steps.proofs.world.World.carry_to_store.Goals as goal
 
-pub take-requires-clause-up : goal.take-requires-clause-up
-take-requires-clause-up g c =
-    up_now c.args.self.now.store.is_up (sym c.if-is_down.false ∙ c.is_down.ensures.store refl)
+pub carry_up-requires-clause-up : goal.carry_up-requires-clause-up
+carry_up-requires-clause-up g c = c.is_down.ensures.up c.if-is_down.false
 
 pub returns-then-is_down-clause-done : goal.returns-then-is_down-clause-done
 returns-then-is_down-clause-done g c w h fits =
     let m = message_of c.args.message.now in
-    down_refused g.D.Disk.state w the_store (λ lucks. to_hosted w (table_of m) (Take c.args.from m) lucks.calls (hosted_at w (table_of m))) c.refuse.result
+    down_refused g.D.Disk.state w (nodes.Store c.args.store) (λ lucks. to_hosted w (table_of m) (Take c.args.from m) lucks.calls (hosted_by w c.args.store (table_of m))) c.refuse.result
     c.args.self.now h (sym c.if-is_down.true ∙ c.is_down.ensures.held w h) c.refuse.ensures.lines
 
 pub returns-clause-done : goal.returns-clause-done
 returns-clause-done g c w h fits =
     let m = message_of c.args.message.now in
-    up_goes_on g.D.Disk.state w the_store (λ lucks. to_hosted w (table_of m) (Take c.args.from m) lucks.calls (hosted_at w (table_of m))) c.take.result
-    c.take.new.self (sym c.if-is_down.false ∙ c.is_down.ensures.held w h) (c.take.ensures.done w h fits)
+    up_goes_on g.D.Disk.state w (nodes.Store c.args.store) (λ lucks. to_hosted w (table_of m) (Take c.args.from m) lucks.calls (hosted_by w c.args.store (table_of m))) c.carry_up.result
+    c.carry_up.new.self (sym c.if-is_down.false ∙ c.is_down.ensures.held w h) (c.carry_up.ensures.done w h fits)
 
 pub returns-then-is_down-clause-counted : goal.returns-then-is_down-clause-counted
 returns-then-is_down-clause-counted g c =
@@ -31,7 +33,7 @@ returns-then-is_down-clause-counted g c =
 
 pub returns-then-is_down-clause-rows : goal.returns-then-is_down-clause-rows
 returns-then-is_down-clause-rows g c w h fits =
-    let m = message_of c.args.message.now in
+    let to = nodes.Store c.args.store in
     let tables = c.args.self.now.store.tables in
-    over_first_ok g.D.Disk.state g.D.Disk.images c.refuse.result w (move_table (table_of m) (Take c.args.from m) w).world tables tables
+    over_first_ok g.D.Disk.state g.D.Disk.images c.refuse.result w (taken_by w (packet_with c.args.from to c.args.message.now) to) tables tables
     (any_ok c.refuse.result (AreLeft g.D.Disk.state g.D.Disk.images w tables tables) (none_left g.D.Disk.state g.D.Disk.images g.met.D.Disk.only_now w c.args.self.now.store h.store))

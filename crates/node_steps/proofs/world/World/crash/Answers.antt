@@ -5,7 +5,7 @@ use Rattle.table_model.specs.declared.event.Event.TheVariants as events
 use Rattle.world_tables.specs.World.{crashed, refused, step}
 use Rattle.world_tables.specs.Faults.{is_device_fault, fails_crash}
 use Rattle.node_steps.proofs.Counted.{counted_still, comes_counted_as}
-use Rattle.node_steps.proofs.Done.{down_refused, up_now}
+use Rattle.node_steps.proofs.Done.{down_refused}
 use Rattle.store_host.specs.Holds.{AreLeft}
 use Rattle.node_steps.proofs.Rows.{any_ok, none_left}
 use Rattle.node_steps.proofs.world.World.crash.Goals as goal
@@ -19,8 +19,7 @@ returns-then-is_down-clause-done g c w h =
     (down_refused g.D.Disk.state w c.args.node (λ lucks. crashed w c.args.calls lucks.calls c.args.node) c.refuse.result c.args.self.now h is c.refuse.ensures.lines)
 
 pub crash_up-requires-clause-up : goal.crash_up-requires-clause-up
-crash_up-requires-clause-up g c is =
-    up_now c.args.self.now.store.is_up (sym c.if-is_down.false ∙ c.is_down.ensures.store is)
+crash_up-requires-clause-up g c = c.is_down.ensures.up c.if-is_down.false
 
 pub returns-clause-done : goal.returns-clause-done
 returns-clause-done g c w h =

@@ -1,7 +1,7 @@
 use Rattle.std.proofs.Common.{refl}
 use Rattle.step_tables.specs.Facts as facts
 use Rattle.world_tables.specs.World.{without_node}
-use Rattle.node_steps.proofs.Others.{answers, off_hold}
+use Rattle.node_steps.proofs.Holding.{answers, off_hold}
 use Rattle.node_steps.proofs.world.World.free_up.Goals as goal
 
 pub returns-clause-done : goal.returns-clause-done

@@ -1,6 +1,6 @@
 use Rattle.std.proofs.Common.{◌∷◌, refl}
 use Rattle.step_tables.specs.Facts as facts
-use Rattle.node_steps.proofs.Others.{answers, on_hold}
+use Rattle.node_steps.proofs.Holding.{answers, on_hold}
 use Rattle.node_steps.proofs.world.World.hold_up.Goals as goal
 
 pub returns-clause-done : goal.returns-clause-done

@@ -1,35 +1,35 @@
-use Rattle.std.proofs.Common.{sym, ◌∙◌, ap, subst}
-use Rattle.stab_base.specs.declared.node.Node.{Node}
-use Rattle.world_tables.specs.World.{is_down, started, the_store}
+use Rattle.std.proofs.Common.{ap, Bool}
+use Rattle.std.specs.Prelude.{if◌then◌else◌}
+use Rattle.stab_base.specs.declared.node.Node.TheVariants as nodes
+use Rattle.step_tables.specs.Facts as facts
+use Rattle.world_tables.specs.World.{started, store_starts, answering, answered}
 use Rattle.world_tables.specs.Passed.{started_at}
-use Rattle.node_steps.specs.Rows.{ComesLeft}
-use Rattle.store_host.specs.Holds.{AreLeft}
-use Rattle.node_steps.proofs.Clients.{plans_same}
-use Rattle.node_steps.proofs.NodeSets.{same_is}
-use Rattle.node_steps.proofs.Rows.{any_ok, none_left, same_tables, comes_still}
+use Rattle.node_steps.specs.Calls.{with_calls}
+use Rattle.node_steps.specs.Rows.{AreLeftOver}
+use Rattle.node_steps.proofs.Counted.{told_counted}
+use Rattle.node_steps.proofs.Done.{told_done}
+use Rattle.node_steps.proofs.Going.{starts_goes}
+use Rattle.node_steps.proofs.Rows.{told_tables, comes_left, left_comes}
+use Rattle.node_steps.proofs.Starting.{starts_there}
 use Rattle.node_steps.proofs.world.World.start_down.Goals as goal
 
-pub start_store-requires-clause-down : goal.start_store-requires-clause-down
-start_store-requires-clause-down g c =
-    c.requires.down (sym c.is_owner.ensures ∙ c.if-is_owner.true)
-
-pub returns-then-is_owner-clause-done : goal.returns-then-is_owner-clause-done
-returns-then-is_owner-clause-done g c w h down =
-    let is = same_is c.args.node the_store (sym c.is_owner.ensures ∙ c.if-is_owner.true) in
-    subst (λ (n : Node). ComesLeft g.D.Disk.state g.D.Disk.images w (λ lucks. started w lucks.shape lucks.calls n) (λ lucks. started_at w lucks.calls n) c.start_store.result c.args.self.now c.start_store.new.self) (sym is)
-    (c.start_store.ensures.done w h (down ∙ ap (λ (n : Node). is_down w n) is))
-
-pub start_other-requires-clause-other : goal.start_other-requires-clause-other
-start_other-requires-clause-other g c =
-    sym c.is_owner.ensures ∙ c.if-is_owner.false
-
-pub returns-then-is_owner-clause-plans : goal.returns-then-is_owner-clause-plans
-returns-then-is_owner-clause-plans g c n plans =
-    plans_same g.D.Disk.state c.args.self.now c.start_store.new.self n c.start_store.ensures.clients plans
+pub start-requires-clause-held : goal.start-requires-clause-held
+start-requires-clause-held g c = let k = c.requires.held in (k.0, k.1.store)
 
 pub returns-clause-done : goal.returns-clause-done
-returns-clause-done g c w h down =
-    comes_still g.D.Disk.state g.D.Disk.images w (λ lucks. started w lucks.shape lucks.calls c.args.node) (λ lucks. started_at w lucks.calls c.args.node) c.start_other.result c.args.self.now c.start_other.new.self
-    (c.start_other.ensures.done w h down)
-    (same_tables (AreLeft g.D.Disk.state g.D.Disk.images w c.args.self.now.store.tables) c.start_other.result c.args.self.now c.start_other.new.self
-    (none_left g.D.Disk.state g.D.Disk.images g.met.D.Disk.only_now w c.args.self.now.store h.store) (any_ok c.start_other.result _ c.start_other.ensures.store))
+returns-clause-done g c w h =
+    let n = c.args.store in
+    let k = c.in_ok-answer.ensures.done w h.store (c.is_held-is_held.ensures w h) in
+    let starts = starts_there g.D.Disk.state w c.args.self.now.store n h.store c.requires.declared c.requires.down in
+    comes_left g.D.Disk.state g.D.Disk.images w (λ lucks. started w lucks.shape lucks.calls (nodes.Store n)) (λ lucks. started_at w lucks.calls (nodes.Store n)) c.tell.result c.args.self.now c.tell.new.self (with_calls k.0)
+    (told_done g.D.Disk.state w c.args.self.now h (store_starts n k.0 w) (starts_goes n k.0 w) facts.Done _ _ c.tell.result c.tell.new.self (λ lucks. started w lucks.shape lucks.calls (nodes.Store n)) (with_calls k.0)
+    (ap (λ (b : Bool). if b then answering facts.Done (store_starts n k.0 w) else answered w facts.Done) starts) k.1 c.tell.ensures.told)
+    (told_tables (AreLeftOver g.D.Disk.state g.D.Disk.images w (started_at w k.0 (nodes.Store n)) c.args.self.now.store.tables) c.tell.result _ c.args.self.now c.tell.new.self c.start.new.stores k.2
+    c.tell.ensures.told)
+
+pub returns-clause-counted : goal.returns-clause-counted
+returns-clause-counted g c =
+    let k = c.requires.held in let n = c.args.store in
+    told_counted g.D.Disk.state k.0 (λ lucks. started k.0 lucks.shape lucks.calls (nodes.Store n)) c.tell.result _ c.args.self.now c.tell.new.self c.start.new.stores c.in_ok-answer.ensures.counted c.tell.ensures.told
+    (left_comes g.D.Disk.state g.D.Disk.images k.0 (λ lucks. started k.0 lucks.shape lucks.calls (nodes.Store n)) (λ lucks. started_at k.0 lucks.calls (nodes.Store n)) c.tell.result c.args.self.now c.tell.new.self
+    (returns-clause-done g c k.0 k.1))

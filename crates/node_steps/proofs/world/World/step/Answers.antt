@@ -17,8 +17,8 @@ use Rattle.node_steps.specs.Faults.{ComesCounted}
 use Rattle.node_steps.specs.Rows.{ComesLeft}
 use Rattle.node_steps.specs.Steps.{HavePlansBelow, IsStep, Spends, may_begin}
 use Rattle.node_steps.proofs.Counted.{stepped, stepped_first, stepped_still, stepped_counted, never_left, left_still}
-use Rattle.node_steps.proofs.Rows.{any_ok, none_left, stay_left, stay_still}
-use Rattle.node_steps.proofs.Stepping.{nothing_done, memory_limit, either_limit, other_counted, memory_other, nodes_same, joins_as, plans_later, plans_kept, one_begun, least_begun, left_if, never_single}
+use Rattle.node_steps.proofs.Rows.{any_ok, stay_left, stay_still}
+use Rattle.node_steps.proofs.Stepping.{memory_limit, either_limit, other_counted, memory_other, nodes_same, joins_as, plans_later, plans_kept, one_begun, least_begun, left_if, never_single}
 use Rattle.node_steps.proofs.Done.{comes_as}
 use Rattle.node_steps.proofs.AsCalls.{as_call, spent_limit}
 use Rattle.node_steps.proofs.world.World.step.Goals as goal
@@ -51,16 +51,33 @@ returns-in-Some-clause-plans g c w n r h k =
     one_begun g.D.Disk.state w c.args.event.now n c.call.new.self (is.begins w)
     (c.call.ensures.plans n k)
 
+pub declare_store-requires : goal.declare_store-requires
+declare_store-requires g c = let k = c.requires.held in record { held = (k.w, k.held) }
+
 pub returns-in-Store-clause-done : goal.returns-in-Store-clause-done
 returns-in-Store-clause-done g c w r h out =
-    subst (λ (e : Event). IsStep g.D.Disk.state g.D.Disk.images w e c.silent.result (g.P.Depot.state c.args.depot.now).is_out c.args.self.now c.args.self.now) (sym c.in-Store.is)
-    (nothing_done g.D.Disk.state g.D.Disk.images w _ (g.P.Depot.state c.args.depot.now).is_out c.args.self.now c.silent.result r h out c.silent.ensures
-    (none_left g.D.Disk.state g.D.Disk.images g.met.D.Disk.only_now w c.args.self.now.store h.store))
+    stepped_counted g.D.Disk.state g.D.Disk.images w c.args.event.now (g.P.Depot.state c.args.depot.now).is_out c.args.self.now c.declare_store.new.self c.declare_store.result out
+    (subst (λ (e : Event). ComesCounted g.D.Disk.state w (step w e) (λ lucks. is_device_fault w e lucks) c.declare_store.result c.args.self.now c.declare_store.new.self) (sym c.in-Store.is)
+    (c.declare_store.ensures.done w h))
+    (stay_left g.D.Disk.state g.D.Disk.images w r c.args.event.now c.declare_store.result c.args.self.now c.declare_store.new.self (c.declare_store.ensures.rows w h))
+
+pub returns-in-Store-clause-limit : goal.returns-in-Store-clause-limit
+returns-in-Store-clause-limit g c w n r h k =
+    memory_limit c.declare_store.result c.declare_store.ensures.memory (λ code count. (code ≡ 11) × Spends n w c.args.event.now)
+
+pub returns-in-Store-clause-left : goal.returns-in-Store-clause-left
+returns-in-Store-clause-left g c w r h out =
+    left_if c.declare_store.result _ c.args.event.now
+    (never_left g.D.Disk.state w c.args.event.now (g.P.Depot.state c.args.depot.now).is_out c.args.self.now c.declare_store.new.self c.declare_store.result out c.declare_store.ensures.memory)
+
+pub returns-in-Store-clause-depot : goal.returns-in-Store-clause-depot
+returns-in-Store-clause-depot g c =
+    other_counted c.declare_store.result (memory_other c.declare_store.result c.declare_store.ensures.memory) (g.P.Depot.state c.args.depot.now).faults
 
 pub returns-in-Store-clause-plans : goal.returns-in-Store-clause-plans
 returns-in-Store-clause-plans g c w n r h k =
-    one_begun g.D.Disk.state w c.args.event.now n c.args.self.now (subst (λ (e : Event). may_begin w e ≡ 1) (sym c.in-Store.is) refl)
-    (plans_later g.D.Disk.state n c.args.self.now k)
+    one_begun g.D.Disk.state w c.args.event.now n c.declare_store.new.self (subst (λ (e : Event). may_begin w e ≡ 1) (sym c.in-Store.is) refl)
+    (plans_kept g.D.Disk.state n c.args.self.now c.declare_store.new.self c.declare_store.ensures.clients k)
 
 pub declare-requires-clause-made : goal.declare-requires-clause-made
 declare-requires-clause-made g c =

@@ -8,7 +8,7 @@ use Rattle.node_steps.proofs.world.World.store_show.Goals as goal
 
 pub returns-then-has-clause-done : goal.returns-then-has-clause-done
 returns-then-has-clause-done g c w h =
-    comes_there g.D.Disk.state w c.args.table (λ lucks o. store_shows w c.args.row.now lucks.calls o) c.show_there.result _ (sym c.if-has.true ∙ c.has.ensures.held w h.store)
+    comes_there g.D.Disk.state w c.args.table (λ lucks o. store_shows w c.args.table c.args.row.now lucks.calls o) c.show_there.result _ (sym c.if-has.true ∙ c.has.ensures.held w h.store)
     (λ hosted at. c.show_there.ensures.done w hosted h at)
 
 pub show_there-requires-clause-there : goal.show_there-requires-clause-there
@@ -17,7 +17,7 @@ show_there-requires-clause-there g c =
 
 pub returns-clause-done : goal.returns-clause-done
 returns-clause-done g c w h =
-    comes_not_there g.D.Disk.state w c.args.self.now h c.args.table (λ lucks o. store_shows w c.args.row.now lucks.calls o) (λ lucks. refl) c.only.result
+    comes_not_there g.D.Disk.state w c.args.self.now h c.args.table (λ lucks o. store_shows w c.args.table c.args.row.now lucks.calls o) (λ lucks. refl) c.only.result
     (sym c.if-has.false ∙ c.has.ensures.held w h.store) c.only.ensures.lines
 
 pub returns-clause-counted : goal.returns-clause-counted

@@ -27,16 +27,16 @@ returns-clause-counted g c =
     let k = c.requires.held in
     let m = message_of c.args.message.now in
     told_counted g.D.Disk.state k.0 (λ lucks. to_hosted k.0 (table_of m) (Take c.args.from m) lucks.calls (hosted_at k.0 (table_of m))) c.tell.result _ c.args.self.now c.tell.new.self
-    c.take.new.store c.in_ok-answer.ensures.counted c.tell.ensures.told (returns-clause-done g c k.0 k.1 k.2)
+    c.take.new.stores c.in_ok-answer.ensures.counted c.tell.ensures.told (returns-clause-done g c k.0 k.1 k.2)
 
 pub returns-clause-rows : goal.returns-clause-rows
 returns-clause-rows g c w h fits =
     let m = message_of c.args.message.now in
     told_tables (AreLeftOver g.D.Disk.state g.D.Disk.images w (move_table (table_of m) (Take c.args.from m) w).world c.args.self.now.store.tables) c.tell.result _ c.args.self.now
-    c.tell.new.self c.take.new.store (c.in_ok-answer.ensures.rows w h.store fits) c.tell.ensures.told
+    c.tell.new.self c.take.new.stores (c.in_ok-answer.ensures.rows w h.store fits) c.tell.ensures.told
 
 pub returns-in_err-answer-clause-left : goal.returns-in_err-answer-clause-left
 returns-in_err-answer-clause-left g c w h =
     let p = err_from_is_err_and c.from_residual.result c.from_residual.ensures.1 in
     rw (p.1, p.2)
-    (λ no. let k = c.in_err-answer.ensures.left w h.store no in still_store g.D.Disk.state w c.args.self.now c.take.new.store h k.0 k.1 k.2)
+    (λ no. let k = c.in_err-answer.ensures.left w h.store no in still_store g.D.Disk.state w c.args.self.now c.take.new.stores h k.0 k.1 k.2)

@@ -1,7 +1,7 @@
 use Rattle.std.proofs.Common.{refl, sym, ◌∙◌}
 use Rattle.world_tables.specs.World.{worked}
 use Rattle.node_steps.proofs.Counted.{only_counted}
-use Rattle.node_steps.proofs.Done.{down_refused, up_goes_on, up_now}
+use Rattle.node_steps.proofs.Done.{down_refused, up_goes_on}
 use Rattle.store_host.specs.Holds.{AreLeft}
 use Rattle.node_steps.proofs.Rows.{any_ok, none_left}
 use Rattle.node_steps.proofs.world.World.work.Goals as goal
@@ -11,8 +11,7 @@ returns-then-is_down-clause-done g c w h =
     down_refused g.D.Disk.state w c.args.node (λ lucks. worked w lucks.calls c.args.node) c.refuse.result c.args.self.now h (sym c.if-is_down.true ∙ c.is_down.ensures.held w h) c.refuse.ensures.lines
 
 pub work_up-requires-clause-up : goal.work_up-requires-clause-up
-work_up-requires-clause-up g c is =
-    up_now c.args.self.now.store.is_up (sym c.if-is_down.false ∙ c.is_down.ensures.store is)
+work_up-requires-clause-up g c = c.is_down.ensures.up c.if-is_down.false
 
 pub returns-clause-done : goal.returns-clause-done
 returns-clause-done g c w h =

@@ -1,6 +1,7 @@
 use Rattle.std.proofs.Common.{refl}
+use Rattle.stab_base.specs.declared.node.Node.TheVariants as nodes
 use Rattle.step_tables.specs.Facts as facts
-use Rattle.world_tables.specs.World.{worked, the_store, owner, busy_step, busy_table, write_next, first_luck}
+use Rattle.world_tables.specs.World.{worked, busy_step, busy_table, write_next, first_luck}
 use Rattle.node_steps.specs.Calls.{with_calls}
 use Rattle.node_steps.proofs.Counted.{told_counted}
 use Rattle.node_steps.proofs.Done.{told_moves}
@@ -12,18 +13,18 @@ use Rattle.node_steps.proofs.world.World.work_store.Goals as goal
 pub returns-clause-done : goal.returns-clause-done
 returns-clause-done g c w h =
     let k = c.in_ok-answer.ensures.done w h.store in
-    told_moves g.D.Disk.state w c.args.self.now h (write_next owner (first_luck k.0) (busy_table w owner) w) (write_goes (first_luck k.0) (busy_table w owner) w)
-    (facts.Did (busy_step w (busy_table w owner))) _ _ c.tell.result c.tell.new.self (λ lucks. worked w lucks.calls the_store) (with_calls k.0) refl k.1 c.tell.ensures.told
+    told_moves g.D.Disk.state w c.args.self.now h (write_next c.args.store (first_luck k.0) (busy_table w c.args.store) w) (write_goes c.args.store (first_luck k.0) (busy_table w c.args.store) w)
+    (facts.Did (busy_step w (busy_table w c.args.store))) _ _ c.tell.result c.tell.new.self (λ lucks. worked w lucks.calls (nodes.Store c.args.store)) (with_calls k.0) refl k.1 c.tell.ensures.told
 
 pub returns-clause-counted : goal.returns-clause-counted
 returns-clause-counted g c =
     let k = c.requires.held in
-    told_counted g.D.Disk.state k.0 (λ lucks. worked k.0 lucks.calls the_store) c.tell.result _ c.args.self.now c.tell.new.self c.work_once.new.store c.in_ok-answer.ensures.counted c.tell.ensures.told
+    told_counted g.D.Disk.state k.0 (λ lucks. worked k.0 lucks.calls (nodes.Store c.args.store)) c.tell.result _ c.args.self.now c.tell.new.self c.work_once.new.stores c.in_ok-answer.ensures.counted c.tell.ensures.told
     (returns-clause-done g c k.0 k.1)
 
 pub returns-clause-rows : goal.returns-clause-rows
 returns-clause-rows g c w h =
-    told_tables (AreLeft g.D.Disk.state g.D.Disk.images w c.args.self.now.store.tables) c.tell.result _ c.args.self.now c.tell.new.self c.work_once.new.store
+    told_tables (AreLeft g.D.Disk.state g.D.Disk.images w c.args.self.now.store.tables) c.tell.result _ c.args.self.now c.tell.new.self c.work_once.new.stores
     (c.in_ok-answer.ensures.rows w h.store) c.tell.ensures.told
 
 pub work_once-requires-clause-held : goal.work_once-requires-clause-held

@@ -1,28 +1,47 @@
-use Rattle.std.proofs.Common.{sym, ◌∙◌}
+use Rattle.std.proofs.Common.{sym, refl, subst}
+use Rattle.stab_base.specs.declared.node.Node.{Node}
+use Rattle.step_tables.specs.Facts as facts
+use Rattle.stab_base.specs.declared.step.Step.TheVariants as steps
 use Rattle.world_tables.specs.World.{worked}
 use Rattle.store_host.specs.Holds.{AreLeft}
+use Rattle.node_steps.specs.Calls.{Comes}
+use Rattle.node_steps.specs.Holds.{IsUpStore}
 use Rattle.node_steps.proofs.Clients.{plans_same}
-use Rattle.node_steps.proofs.Done.{owner_comes}
+use Rattle.node_steps.proofs.Counted.{only_counted}
+use Rattle.node_steps.proofs.Done.{stays}
 use Rattle.node_steps.proofs.Rows.{any_ok, none_left, same_tables}
 use Rattle.node_steps.proofs.world.World.work_up.Goals as goal
 
-pub returns-then-is_owner-clause-done : goal.returns-then-is_owner-clause-done
-returns-then-is_owner-clause-done g c w h =
-    owner_comes g.D.Disk.state w c.args.node (sym c.is_owner.ensures ∙ c.if-is_owner.true) (λ n lucks. worked w lucks.calls n) c.work_store.result c.work_store.new.self (c.work_store.ensures.done w h)
-
 pub work_store-requires-clause-up : goal.work_store-requires-clause-up
-work_store-requires-clause-up g c =
-    c.requires.up (sym c.is_owner.ensures ∙ c.if-is_owner.true)
+work_store-requires-clause-up g c = subst (λ (n : Node). IsUpStore c.args.self.now.store n) c.in-Store.is c.requires.up
 
-pub work_other-requires-clause-other : goal.work_other-requires-clause-other
-work_other-requires-clause-other g c =
-    sym c.is_owner.ensures ∙ c.if-is_owner.false
+pub returns-in-Store-clause-done : goal.returns-in-Store-clause-done
+returns-in-Store-clause-done g c w h =
+    subst (λ (n : Node). Comes g.D.Disk.state w (λ lucks. worked w lucks.calls n) c.work_store.result c.work_store.new.self) (sym c.in-Store.is) (c.work_store.ensures.done w h)
 
-pub returns-then-is_owner-clause-plans : goal.returns-then-is_owner-clause-plans
-returns-then-is_owner-clause-plans g c n plans =
+pub returns-in-Client-clause-done : goal.returns-in-Client-clause-done
+returns-in-Client-clause-done g c w h =
+    subst (λ (n : Node). Comes g.D.Disk.state w (λ lucks. worked w lucks.calls n) c.work_client.result c.work_client.new.self) (sym c.in-Client.is) (c.work_client.ensures.done w h)
+
+pub returns-in-Gate-clause-done : goal.returns-in-Gate-clause-done
+returns-in-Gate-clause-done g c w h =
+    subst (λ (n : Node). Comes g.D.Disk.state w (λ lucks. worked w lucks.calls n) c.only.result c.args.self.now) (sym c.in-Gate.is)
+    (stays g.D.Disk.state w c.args.self.now h (facts.Did steps.Idle) c.only.result c.only.ensures.lines)
+
+pub returns-in-Gate-clause-counted : goal.returns-in-Gate-clause-counted
+returns-in-Gate-clause-counted g c =
+    only_counted g.D.Disk.state c.only.result _ c.args.self.now c.args.self.now refl refl refl c.only.ensures.lines
+
+pub returns-in-Client-clause-rows : goal.returns-in-Client-clause-rows
+returns-in-Client-clause-rows g c w h =
+    same_tables (AreLeft g.D.Disk.state g.D.Disk.images w c.args.self.now.store.tables) c.work_client.result c.args.self.now c.work_client.new.self
+    (none_left g.D.Disk.state g.D.Disk.images g.met.D.Disk.only_now w c.args.self.now.store h.store) (any_ok c.work_client.result _ c.work_client.ensures.store)
+
+pub returns-in-Gate-clause-rows : goal.returns-in-Gate-clause-rows
+returns-in-Gate-clause-rows g c w h =
+    any_ok c.only.result (AreLeft g.D.Disk.state g.D.Disk.images w c.args.self.now.store.tables c.args.self.now.store.tables)
+    (none_left g.D.Disk.state g.D.Disk.images g.met.D.Disk.only_now w c.args.self.now.store h.store)
+
+pub returns-in-Store-clause-plans : goal.returns-in-Store-clause-plans
+returns-in-Store-clause-plans g c n plans =
     plans_same g.D.Disk.state c.args.self.now c.work_store.new.self n c.work_store.ensures.clients plans
-
-pub returns-clause-rows : goal.returns-clause-rows
-returns-clause-rows g c w h =
-    same_tables (AreLeft g.D.Disk.state g.D.Disk.images w c.args.self.now.store.tables) c.work_other.result c.args.self.now c.work_other.new.self
-    (none_left g.D.Disk.state g.D.Disk.images g.met.D.Disk.only_now w c.args.self.now.store h.store) (any_ok c.work_other.result _ c.work_other.ensures.store)

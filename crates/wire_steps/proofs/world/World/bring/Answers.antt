@@ -4,8 +4,8 @@ use Rattle.wire_steps.proofs.Answered.{send_limited, plans_stay}
 use Rattle.wire_steps.proofs.Brought.{to_carry, fits_to, bring_tells, bring_comes, bring_ends, carry_ends, limit_is}
 use Rattle.wire_steps.proofs.world.World.bring.Goals as goal
 
-pub carry-requires-clause-held : goal.carry-requires-clause-held
-carry-requires-clause-held g c = to_carry g.D.Disk.state g.D.Disk.images c.args.self.now c.args.from c.args.to c.args.message c.requires.carried
+pub carry-requires : goal.carry-requires
+carry-requires g c = record { held = to_carry g.D.Disk.state g.D.Disk.images c.args.self.now c.args.from c.args.to c.args.message c.requires.carried }
 
 pub tell-requires : goal.tell-requires
 tell-requires g c =

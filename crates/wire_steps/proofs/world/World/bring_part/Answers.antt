@@ -1,32 +1,23 @@
-use Rattle.std.proofs.Common.{◌∙◌, ap}
-use Rattle.stab_base.specs.declared.node.Node.TheVariants as nodes
 use Rattle.step_tables.specs.Travels.{message_of}
 use Rattle.wire_steps.proofs.Answered.{limited_later, plans_later}
-use Rattle.wire_steps.proofs.Coming.{at_node, store_number, gate_takes_nothing, gate_is_place, idle_carry, idle_comes, idle_ends}
+use Rattle.wire_steps.proofs.Coming.{at_node, gate_takes_nothing, idle_carry, idle_comes, idle_ends}
 use Rattle.wire_steps.proofs.world.World.bring_part.Goals as goal
 
 pub bring_to_store-requires : goal.bring_to_store-requires
 bring_to_store-requires g c =
-    let x = c.requires.brought in
-    record {
-      brought = at_node g.D.Disk.state c.args.self.now c.args.from c.args.to c.args.part x _ (c.in-Store.is
-          ∙ ap nodes.Store (store_number g.D.Disk.state c.args.self.now c.args.from c.args.to c.args.part x _ c.in-Store.is));
-    }
+    record { brought = at_node g.D.Disk.state c.args.self.now c.args.from c.args.to c.args.part c.requires.brought _ c.in-Store.is }
 
 pub returns-in-Store-clause-done : goal.returns-in-Store-clause-done
 returns-in-Store-clause-done g c x =
-    c.bring_to_store.ensures.done (at_node g.D.Disk.state c.args.self.now c.args.from c.args.to c.args.part x _ (c.in-Store.is
-    ∙ ap nodes.Store (store_number g.D.Disk.state c.args.self.now c.args.from c.args.to c.args.part x _ c.in-Store.is)))
+    c.bring_to_store.ensures.done (at_node g.D.Disk.state c.args.self.now c.args.from c.args.to c.args.part x _ c.in-Store.is)
 
 pub returns-in-Store-clause-ends : goal.returns-in-Store-clause-ends
 returns-in-Store-clause-ends g c x =
-    c.bring_to_store.ensures.ends (at_node g.D.Disk.state c.args.self.now c.args.from c.args.to c.args.part x _ (c.in-Store.is
-    ∙ ap nodes.Store (store_number g.D.Disk.state c.args.self.now c.args.from c.args.to c.args.part x _ c.in-Store.is)))
+    c.bring_to_store.ensures.ends (at_node g.D.Disk.state c.args.self.now c.args.from c.args.to c.args.part x _ c.in-Store.is)
 
 pub returns-in-Store-clause-limit : goal.returns-in-Store-clause-limit
 returns-in-Store-clause-limit g c x n below =
-    let more = c.bring_to_store.ensures.limit (at_node g.D.Disk.state c.args.self.now c.args.from c.args.to c.args.part x _ (c.in-Store.is
-    ∙ ap nodes.Store (store_number g.D.Disk.state c.args.self.now c.args.from c.args.to c.args.part x _ c.in-Store.is))) n below in
+    let more = c.bring_to_store.ensures.limit (at_node g.D.Disk.state c.args.self.now c.args.from c.args.to c.args.part x _ c.in-Store.is) n below in
     limited_later _ x.v.world c.bring_to_store.result (limited_later n x.v.world c.bring_to_store.result more)
 
 pub bring_to_client-requires : goal.bring_to_client-requires
@@ -46,7 +37,7 @@ bring-requires g c =
     let x = c.requires.brought in
     record {
       carried = idle_carry g.D.Disk.state c.args.self.now c.args.from c.args.to c.args.part x c.table_of.result (c.table_of.ensures x.p.part x.part_is) (message_of c.any_of.result)
-          c.any_of.ensures (gate_takes_nothing x.v.world c.table_of.result c.args.to _ c.in-Gate.is) (gate_is_place c.args.to _ c.in-Gate.is);
+          c.any_of.ensures (gate_takes_nothing x.v.world c.table_of.result c.args.to _ c.in-Gate.is);
     }
 
 pub returns-in-Gate-clause-done : goal.returns-in-Gate-clause-done
@@ -55,7 +46,7 @@ returns-in-Gate-clause-done g c x =
     idle_comes g.D.Disk.state c.args.self.now c.args.from c.args.to c.args.part x c.table_of.result (c.table_of.ensures x.p.part x.part_is) (message_of c.any_of.result) c.any_of.ensures nothing
     g.D.Disk.images c.bring.new.self c.bring.result
     (c.bring.ensures.done (idle_carry g.D.Disk.state c.args.self.now c.args.from c.args.to c.args.part x c.table_of.result (c.table_of.ensures x.p.part x.part_is) (message_of c.any_of.result)
-    c.any_of.ensures nothing (gate_is_place c.args.to _ c.in-Gate.is)))
+    c.any_of.ensures nothing))
 
 pub returns-in-Gate-clause-ends : goal.returns-in-Gate-clause-ends
 returns-in-Gate-clause-ends g c x =
@@ -63,13 +54,13 @@ returns-in-Gate-clause-ends g c x =
     idle_ends g.D.Disk.state c.args.self.now c.args.from c.args.to c.args.part x c.table_of.result (c.table_of.ensures x.p.part x.part_is) (message_of c.any_of.result) c.any_of.ensures nothing
     g.D.Disk.images c.bring.new.self c.bring.result
     (c.bring.ensures.ends (idle_carry g.D.Disk.state c.args.self.now c.args.from c.args.to c.args.part x c.table_of.result (c.table_of.ensures x.p.part x.part_is) (message_of c.any_of.result)
-    c.any_of.ensures nothing (gate_is_place c.args.to _ c.in-Gate.is)))
+    c.any_of.ensures nothing))
 
 pub returns-in-Gate-clause-limit : goal.returns-in-Gate-clause-limit
 returns-in-Gate-clause-limit g c x n below =
     let nothing = gate_takes_nothing x.v.world c.table_of.result c.args.to _ c.in-Gate.is in
     let more = c.bring.ensures.limit (idle_carry g.D.Disk.state c.args.self.now c.args.from c.args.to c.args.part x c.table_of.result (c.table_of.ensures x.p.part x.part_is)
-    (message_of c.any_of.result) c.any_of.ensures nothing (gate_is_place c.args.to _ c.in-Gate.is)) n below in
+    (message_of c.any_of.result) c.any_of.ensures nothing) n below in
     limited_later _ x.v.world c.bring.result (limited_later n x.v.world c.bring.result more)
 
 pub returns-in-Store-clause-plans : goal.returns-in-Store-clause-plans

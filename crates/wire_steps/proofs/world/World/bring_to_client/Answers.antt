@@ -10,7 +10,7 @@ bring-requires g c =
     let x = c.requires.brought in
     record {
       carried = idle_carry g.D.Disk.state c.args.self.now c.args.from (nodes.Client c.args.client) c.args.part x c.table_of-table.result (c.table_of-table.ensures x.p.part x.part_is) (message_of c.any_of.result)
-          c.any_of.ensures (inl (sym (c.is_client_ready.ensures x.v.world x.held.nodes) ∙ c.if-not-is_client_ready.true)) tt;
+          c.any_of.ensures (inl (sym (c.is_client_ready.ensures x.v.world x.held.nodes) ∙ c.if-not-is_client_ready.true));
     }
 
 pub returns-then-not-is_client_ready-clause-done : goal.returns-then-not-is_client_ready-clause-done
@@ -18,19 +18,19 @@ returns-then-not-is_client_ready-clause-done g c x =
     idle_comes g.D.Disk.state c.args.self.now c.args.from (nodes.Client c.args.client) c.args.part x c.table_of-table.result (c.table_of-table.ensures x.p.part x.part_is) (message_of c.any_of.result)
     c.any_of.ensures (inl (sym (c.is_client_ready.ensures x.v.world x.held.nodes) ∙ c.if-not-is_client_ready.true)) g.D.Disk.images c.bring.new.self c.bring.result
     (c.bring.ensures.done (idle_carry g.D.Disk.state c.args.self.now c.args.from (nodes.Client c.args.client) c.args.part x c.table_of-table.result (c.table_of-table.ensures x.p.part x.part_is) (message_of c.any_of.result)
-    c.any_of.ensures (inl (sym (c.is_client_ready.ensures x.v.world x.held.nodes) ∙ c.if-not-is_client_ready.true)) tt))
+    c.any_of.ensures (inl (sym (c.is_client_ready.ensures x.v.world x.held.nodes) ∙ c.if-not-is_client_ready.true))))
 
 pub returns-then-not-is_client_ready-clause-ends : goal.returns-then-not-is_client_ready-clause-ends
 returns-then-not-is_client_ready-clause-ends g c x =
     idle_ends g.D.Disk.state c.args.self.now c.args.from (nodes.Client c.args.client) c.args.part x c.table_of-table.result (c.table_of-table.ensures x.p.part x.part_is) (message_of c.any_of.result)
     c.any_of.ensures (inl (sym (c.is_client_ready.ensures x.v.world x.held.nodes) ∙ c.if-not-is_client_ready.true)) g.D.Disk.images c.bring.new.self c.bring.result
     (c.bring.ensures.ends (idle_carry g.D.Disk.state c.args.self.now c.args.from (nodes.Client c.args.client) c.args.part x c.table_of-table.result (c.table_of-table.ensures x.p.part x.part_is) (message_of c.any_of.result)
-    c.any_of.ensures (inl (sym (c.is_client_ready.ensures x.v.world x.held.nodes) ∙ c.if-not-is_client_ready.true)) tt))
+    c.any_of.ensures (inl (sym (c.is_client_ready.ensures x.v.world x.held.nodes) ∙ c.if-not-is_client_ready.true))))
 
 pub returns-then-not-is_client_ready-clause-limit : goal.returns-then-not-is_client_ready-clause-limit
 returns-then-not-is_client_ready-clause-limit g c x n below =
     limited_later _ x.v.world c.bring.result (limited_later n x.v.world c.bring.result (c.bring.ensures.limit (idle_carry g.D.Disk.state c.args.self.now c.args.from (nodes.Client c.args.client) c.args.part x c.table_of-table.result (c.table_of-table.ensures x.p.part x.part_is)
-    (message_of c.any_of.result) c.any_of.ensures (inl (sym (c.is_client_ready.ensures x.v.world x.held.nodes) ∙ c.if-not-is_client_ready.true)) tt) n below))
+    (message_of c.any_of.result) c.any_of.ensures (inl (sym (c.is_client_ready.ensures x.v.world x.held.nodes) ∙ c.if-not-is_client_ready.true))) n below))
 
 pub bring_to_ready-requires : goal.bring_to_ready-requires
 bring_to_ready-requires g c =

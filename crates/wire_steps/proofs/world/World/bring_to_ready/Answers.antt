@@ -23,7 +23,7 @@ bring-requires g c =
     let x = c.requires.brought in
     let read = (rw c.in-Found-false.is at (c.in_ok-has_opened.ensures.read x.brought.v.world x.brought.held.nodes)) in
     let it = told_of g.D.Disk.state g.D.Disk.images g.met.D.Disk.only_now c.args.self.now c.args.client c.args.from c.args.table c.args.part x c.has_opened.new.self c.in_ok-has_opened.ensures.store c.in-Found-false.field-0 read in
-    record { carried = idle_carry g.D.Disk.state (record c.args.self.now { nodes = c.has_opened.new.self }) c.args.from (nodes.Client c.args.client) c.args.part it.brought c.args.table it.table_is (message_of c.any_of.result) c.any_of.ensures (unopened_then g.D.Disk.state g.D.Disk.images g.met.D.Disk.only_now c.args.self.now c.args.client c.args.from c.args.table c.args.part x c.has_opened.new.self c.in_ok-has_opened.ensures.store c.in-Found-false.field-0 read c.in-Found-false.field-0-test) tt }
+    record { carried = idle_carry g.D.Disk.state (record c.args.self.now { nodes = c.has_opened.new.self }) c.args.from (nodes.Client c.args.client) c.args.part it.brought c.args.table it.table_is (message_of c.any_of.result) c.any_of.ensures (unopened_then g.D.Disk.state g.D.Disk.images g.met.D.Disk.only_now c.args.self.now c.args.client c.args.from c.args.table c.args.part x c.has_opened.new.self c.in_ok-has_opened.ensures.store c.in-Found-false.field-0 read c.in-Found-false.field-0-test) }
 
 pub tell-requires : goal.tell-requires
 tell-requires g c =
@@ -56,7 +56,7 @@ returns-in-Found-false-clause-done g c x =
     let it = told_of g.D.Disk.state g.D.Disk.images g.met.D.Disk.only_now c.args.self.now c.args.client c.args.from c.args.table c.args.part x c.has_opened.new.self c.in_ok-has_opened.ensures.store c.in-Found-false.field-0 read in
     still_goes g.D.Disk.state g.D.Disk.images c.args.self.now (record c.args.self.now { nodes = c.has_opened.new.self }) c.args.client c.args.from c.args.table c.args.part x (λ (f : Bool). f ≡ has_table (client_at x.brought.v.world c.args.client) c.args.table) c.in-Found-false.field-0 (opened_seen g.D.Disk.state g.D.Disk.images g.met.D.Disk.only_now c.args.self.now c.args.client c.args.from c.args.table c.args.part x c.has_opened.new.self c.in_ok-has_opened.ensures.store c.in-Found-false.field-0 read) c.bring.new.self c.bring.result
     (idle_comes g.D.Disk.state (record c.args.self.now { nodes = c.has_opened.new.self }) c.args.from (nodes.Client c.args.client) c.args.part it.brought c.args.table it.table_is (message_of c.any_of.result) c.any_of.ensures (unopened_then g.D.Disk.state g.D.Disk.images g.met.D.Disk.only_now c.args.self.now c.args.client c.args.from c.args.table c.args.part x c.has_opened.new.self c.in_ok-has_opened.ensures.store c.in-Found-false.field-0 read c.in-Found-false.field-0-test) g.D.Disk.images c.bring.new.self c.bring.result
-    (c.bring.ensures.done (idle_carry g.D.Disk.state (record c.args.self.now { nodes = c.has_opened.new.self }) c.args.from (nodes.Client c.args.client) c.args.part it.brought c.args.table it.table_is (message_of c.any_of.result) c.any_of.ensures (unopened_then g.D.Disk.state g.D.Disk.images g.met.D.Disk.only_now c.args.self.now c.args.client c.args.from c.args.table c.args.part x c.has_opened.new.self c.in_ok-has_opened.ensures.store c.in-Found-false.field-0 read c.in-Found-false.field-0-test) tt)))
+    (c.bring.ensures.done (idle_carry g.D.Disk.state (record c.args.self.now { nodes = c.has_opened.new.self }) c.args.from (nodes.Client c.args.client) c.args.part it.brought c.args.table it.table_is (message_of c.any_of.result) c.any_of.ensures (unopened_then g.D.Disk.state g.D.Disk.images g.met.D.Disk.only_now c.args.self.now c.args.client c.args.from c.args.table c.args.part x c.has_opened.new.self c.in_ok-has_opened.ensures.store c.in-Found-false.field-0 read c.in-Found-false.field-0-test))))
 
 pub returns-in-Found-false-clause-ends : goal.returns-in-Found-false-clause-ends
 returns-in-Found-false-clause-ends g c x =
@@ -64,13 +64,13 @@ returns-in-Found-false-clause-ends g c x =
     let it = told_of g.D.Disk.state g.D.Disk.images g.met.D.Disk.only_now c.args.self.now c.args.client c.args.from c.args.table c.args.part x c.has_opened.new.self c.in_ok-has_opened.ensures.store c.in-Found-false.field-0 read in
     still_ends g.D.Disk.state g.D.Disk.images c.args.self.now (record c.args.self.now { nodes = c.has_opened.new.self }) c.args.client c.args.from c.args.table c.args.part x (λ (f : Bool). f ≡ has_table (client_at x.brought.v.world c.args.client) c.args.table) c.in-Found-false.field-0 (opened_seen g.D.Disk.state g.D.Disk.images g.met.D.Disk.only_now c.args.self.now c.args.client c.args.from c.args.table c.args.part x c.has_opened.new.self c.in_ok-has_opened.ensures.store c.in-Found-false.field-0 read) c.bring.new.self c.bring.result
     (idle_ends g.D.Disk.state (record c.args.self.now { nodes = c.has_opened.new.self }) c.args.from (nodes.Client c.args.client) c.args.part it.brought c.args.table it.table_is (message_of c.any_of.result) c.any_of.ensures (unopened_then g.D.Disk.state g.D.Disk.images g.met.D.Disk.only_now c.args.self.now c.args.client c.args.from c.args.table c.args.part x c.has_opened.new.self c.in_ok-has_opened.ensures.store c.in-Found-false.field-0 read c.in-Found-false.field-0-test) g.D.Disk.images c.bring.new.self c.bring.result
-    (c.bring.ensures.ends (idle_carry g.D.Disk.state (record c.args.self.now { nodes = c.has_opened.new.self }) c.args.from (nodes.Client c.args.client) c.args.part it.brought c.args.table it.table_is (message_of c.any_of.result) c.any_of.ensures (unopened_then g.D.Disk.state g.D.Disk.images g.met.D.Disk.only_now c.args.self.now c.args.client c.args.from c.args.table c.args.part x c.has_opened.new.self c.in_ok-has_opened.ensures.store c.in-Found-false.field-0 read c.in-Found-false.field-0-test) tt)))
+    (c.bring.ensures.ends (idle_carry g.D.Disk.state (record c.args.self.now { nodes = c.has_opened.new.self }) c.args.from (nodes.Client c.args.client) c.args.part it.brought c.args.table it.table_is (message_of c.any_of.result) c.any_of.ensures (unopened_then g.D.Disk.state g.D.Disk.images g.met.D.Disk.only_now c.args.self.now c.args.client c.args.from c.args.table c.args.part x c.has_opened.new.self c.in_ok-has_opened.ensures.store c.in-Found-false.field-0 read c.in-Found-false.field-0-test))))
 
 pub returns-in-Found-false-clause-limit : goal.returns-in-Found-false-clause-limit
 returns-in-Found-false-clause-limit g c x n below =
     let read = (rw c.in-Found-false.is at (c.in_ok-has_opened.ensures.read x.brought.v.world x.brought.held.nodes)) in
     let it = told_of g.D.Disk.state g.D.Disk.images g.met.D.Disk.only_now c.args.self.now c.args.client c.args.from c.args.table c.args.part x c.has_opened.new.self c.in_ok-has_opened.ensures.store c.in-Found-false.field-0 read in
-    limited_later _ x.brought.v.world c.bring.result (c.bring.ensures.limit (idle_carry g.D.Disk.state (record c.args.self.now { nodes = c.has_opened.new.self }) c.args.from (nodes.Client c.args.client) c.args.part it.brought c.args.table it.table_is (message_of c.any_of.result) c.any_of.ensures (unopened_then g.D.Disk.state g.D.Disk.images g.met.D.Disk.only_now c.args.self.now c.args.client c.args.from c.args.table c.args.part x c.has_opened.new.self c.in_ok-has_opened.ensures.store c.in-Found-false.field-0 read c.in-Found-false.field-0-test) tt) _ (c.in_ok-has_opened.ensures.plans n below))
+    limited_later _ x.brought.v.world c.bring.result (c.bring.ensures.limit (idle_carry g.D.Disk.state (record c.args.self.now { nodes = c.has_opened.new.self }) c.args.from (nodes.Client c.args.client) c.args.part it.brought c.args.table it.table_is (message_of c.any_of.result) c.any_of.ensures (unopened_then g.D.Disk.state g.D.Disk.images g.met.D.Disk.only_now c.args.self.now c.args.client c.args.from c.args.table c.args.part x c.has_opened.new.self c.in_ok-has_opened.ensures.store c.in-Found-false.field-0 read c.in-Found-false.field-0-test)) _ (c.in_ok-has_opened.ensures.plans n below))
 
 pub returns-in-Found-false-clause-plans : goal.returns-in-Found-false-clause-plans
 returns-in-Found-false-clause-plans g c n below = plans_later g.D.Disk.state _ c.bring.new.self.nodes (c.bring.ensures.plans _ (c.in_ok-has_opened.ensures.plans n below))

@@ -3,47 +3,48 @@ use Rattle.wire_steps.specs.Calls.{SpendsAny}
 use Rattle.wire_steps.specs.Delivering.{delivery}
 use Rattle.wire_steps.proofs.Answered.{send_limited, memory_ends, memory_limits, plans_stay, plans_later}
 use Rattle.wire_steps.proofs.Coming.{seen_of, seen_comes, seen_ends, table_tells, table_comes, table_ends}
+use Rattle.wire_steps.proofs.Viewed.{takes_both}
 use Rattle.wire_steps.proofs.world.World.bring_to_table.Goals as goal
 
 pub view-requires : goal.view-requires
-view-requires g c = let x = c.requires.brought in record { held = (x.brought.v, x.brought.sent.reached, x.brought.held, x.ready) }
+view-requires g c = let x = c.requires.brought in record { held = (x.brought.v, x.brought.sent.reached, x.brought.held, (takes_both x.brought.v.world c.args.store c.args.table x.takes).1) }
 
 pub gather_part-requires : goal.gather_part-requires
 gather_part-requires g c =
     let x = c.requires.brought in
-    let seen = (rw c.in-Found.is at (c.in_ok-view.ensures.seen x.brought.v x.brought.p.part x.brought.sent.reached x.brought.held x.ready x.brought.part_is)) in
-    record { seen = seen_of g.D.Disk.state g.D.Disk.images c.args.self.now c.view.new.self c.args.from c.args.table c.args.part x c.in-Found.view seen }
+    let seen = (rw c.in-Found.is at (c.in_ok-view.ensures.seen x.brought.v x.brought.p.part x.brought.sent.reached x.brought.held (takes_both x.brought.v.world c.args.store c.args.table x.takes).1 x.brought.part_is)) in
+    record { seen = seen_of g.D.Disk.state g.D.Disk.images c.args.self.now c.view.new.self c.args.store c.args.from c.args.table c.args.part x c.in-Found.view seen }
 
 pub tell-requires : goal.tell-requires
 tell-requires g c =
     let x = c.requires.brought in
-    let lost = (rw c.in-Fallen.is at (c.in_ok-view.ensures.seen x.brought.v x.brought.p.part x.brought.sent.reached x.brought.held x.ready x.brought.part_is)) in
-    record { told = table_tells g.D.Disk.state g.D.Disk.images c.args.self.now c.view.new.self c.args.from c.args.table c.args.part x c.in-Fallen.told lost }
+    let lost = (rw c.in-Fallen.is at (c.in_ok-view.ensures.seen x.brought.v x.brought.p.part x.brought.sent.reached x.brought.held (takes_both x.brought.v.world c.args.store c.args.table x.takes).1 x.brought.part_is)) in
+    record { told = table_tells g.D.Disk.state g.D.Disk.images c.args.self.now c.view.new.self c.args.store c.args.from c.args.table c.args.part x c.in-Fallen.told lost }
 
 pub returns-in-Found-clause-done : goal.returns-in-Found-clause-done
 returns-in-Found-clause-done g c x =
-    let seen = (rw c.in-Found.is at (c.in_ok-view.ensures.seen x.brought.v x.brought.p.part x.brought.sent.reached x.brought.held x.ready x.brought.part_is)) in
-    seen_comes g.D.Disk.state g.D.Disk.images c.args.self.now c.view.new.self c.args.from c.args.table c.args.part x c.in-Found.view seen c.gather_part.new.self c.gather_part.result (c.gather_part.ensures.done (seen_of g.D.Disk.state g.D.Disk.images c.args.self.now c.view.new.self c.args.from c.args.table c.args.part x c.in-Found.view seen))
+    let seen = (rw c.in-Found.is at (c.in_ok-view.ensures.seen x.brought.v x.brought.p.part x.brought.sent.reached x.brought.held (takes_both x.brought.v.world c.args.store c.args.table x.takes).1 x.brought.part_is)) in
+    seen_comes g.D.Disk.state g.D.Disk.images c.args.self.now c.view.new.self c.args.store c.args.from c.args.table c.args.part x c.in-Found.view seen c.gather_part.new.self c.gather_part.result (c.gather_part.ensures.done (seen_of g.D.Disk.state g.D.Disk.images c.args.self.now c.view.new.self c.args.store c.args.from c.args.table c.args.part x c.in-Found.view seen))
 
 pub returns-in-Found-clause-ends : goal.returns-in-Found-clause-ends
 returns-in-Found-clause-ends g c x =
-    let seen = (rw c.in-Found.is at (c.in_ok-view.ensures.seen x.brought.v x.brought.p.part x.brought.sent.reached x.brought.held x.ready x.brought.part_is)) in
-    seen_ends g.D.Disk.state g.D.Disk.images c.args.self.now c.view.new.self c.args.from c.args.table c.args.part x c.in-Found.view seen c.gather_part.new.self c.gather_part.result (c.gather_part.ensures.ends (seen_of g.D.Disk.state g.D.Disk.images c.args.self.now c.view.new.self c.args.from c.args.table c.args.part x c.in-Found.view seen))
+    let seen = (rw c.in-Found.is at (c.in_ok-view.ensures.seen x.brought.v x.brought.p.part x.brought.sent.reached x.brought.held (takes_both x.brought.v.world c.args.store c.args.table x.takes).1 x.brought.part_is)) in
+    seen_ends g.D.Disk.state g.D.Disk.images c.args.self.now c.view.new.self c.args.store c.args.from c.args.table c.args.part x c.in-Found.view seen c.gather_part.new.self c.gather_part.result (c.gather_part.ensures.ends (seen_of g.D.Disk.state g.D.Disk.images c.args.self.now c.view.new.self c.args.store c.args.from c.args.table c.args.part x c.in-Found.view seen))
 
 pub returns-in-Found-clause-limit : goal.returns-in-Found-clause-limit
 returns-in-Found-clause-limit g c x n below =
-    let seen = (rw c.in-Found.is at (c.in_ok-view.ensures.seen x.brought.v x.brought.p.part x.brought.sent.reached x.brought.held x.ready x.brought.part_is)) in
-    c.gather_part.ensures.limit (seen_of g.D.Disk.state g.D.Disk.images c.args.self.now c.view.new.self c.args.from c.args.table c.args.part x c.in-Found.view seen) n (c.in_ok-view.ensures.plans n below)
+    let seen = (rw c.in-Found.is at (c.in_ok-view.ensures.seen x.brought.v x.brought.p.part x.brought.sent.reached x.brought.held (takes_both x.brought.v.world c.args.store c.args.table x.takes).1 x.brought.part_is)) in
+    c.gather_part.ensures.limit (seen_of g.D.Disk.state g.D.Disk.images c.args.self.now c.view.new.self c.args.store c.args.from c.args.table c.args.part x c.in-Found.view seen) n (c.in_ok-view.ensures.plans n below)
 
 pub returns-in-Fallen-clause-done : goal.returns-in-Fallen-clause-done
 returns-in-Fallen-clause-done g c x =
-    let lost = (rw c.in-Fallen.is at (c.in_ok-view.ensures.seen x.brought.v x.brought.p.part x.brought.sent.reached x.brought.held x.ready x.brought.part_is)) in
-    table_comes g.D.Disk.state g.D.Disk.images c.args.self.now c.view.new.self c.args.from c.args.table c.args.part x c.in-Fallen.told lost c.tell.new.self c.tell.ensures.nodes c.tell.result (c.tell.ensures.told (table_tells g.D.Disk.state g.D.Disk.images c.args.self.now c.view.new.self c.args.from c.args.table c.args.part x c.in-Fallen.told lost))
+    let lost = (rw c.in-Fallen.is at (c.in_ok-view.ensures.seen x.brought.v x.brought.p.part x.brought.sent.reached x.brought.held (takes_both x.brought.v.world c.args.store c.args.table x.takes).1 x.brought.part_is)) in
+    table_comes g.D.Disk.state g.D.Disk.images c.args.self.now c.view.new.self c.args.store c.args.from c.args.table c.args.part x c.in-Fallen.told lost c.tell.new.self c.tell.ensures.nodes c.tell.result (c.tell.ensures.told (table_tells g.D.Disk.state g.D.Disk.images c.args.self.now c.view.new.self c.args.store c.args.from c.args.table c.args.part x c.in-Fallen.told lost))
 
 pub returns-in-Fallen-clause-ends : goal.returns-in-Fallen-clause-ends
 returns-in-Fallen-clause-ends g c x =
-    let lost = (rw c.in-Fallen.is at (c.in_ok-view.ensures.seen x.brought.v x.brought.p.part x.brought.sent.reached x.brought.held x.ready x.brought.part_is)) in
-    table_ends g.D.Disk.state g.D.Disk.images c.args.self.now c.view.new.self c.args.from c.args.table c.args.part x c.in-Fallen.told lost c.tell.new.self c.tell.ensures.nodes c.tell.result (c.tell.ensures.over (table_tells g.D.Disk.state g.D.Disk.images c.args.self.now c.view.new.self c.args.from c.args.table c.args.part x c.in-Fallen.told lost)) c.tell.ensures.only
+    let lost = (rw c.in-Fallen.is at (c.in_ok-view.ensures.seen x.brought.v x.brought.p.part x.brought.sent.reached x.brought.held (takes_both x.brought.v.world c.args.store c.args.table x.takes).1 x.brought.part_is)) in
+    table_ends g.D.Disk.state g.D.Disk.images c.args.self.now c.view.new.self c.args.store c.args.from c.args.table c.args.part x c.in-Fallen.told lost c.tell.new.self c.tell.ensures.nodes c.tell.result (c.tell.ensures.over (table_tells g.D.Disk.state g.D.Disk.images c.args.self.now c.view.new.self c.args.store c.args.from c.args.table c.args.part x c.in-Fallen.told lost)) c.tell.ensures.only
 
 pub returns-in-Fallen-clause-limit : goal.returns-in-Fallen-clause-limit
 returns-in-Fallen-clause-limit g c x n below = send_limited (SpendsAny n x.brought.v.world) c.tell.result c.tell.ensures.only

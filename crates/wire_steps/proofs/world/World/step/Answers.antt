@@ -2,6 +2,7 @@ use Rattle.std.proofs.Common.{suc, ◌+◌, arith, sym, refl}
 use Rattle.table_model.specs.declared.event.Event.TheVariants as events
 use Rattle.wire_tables.specs.Wire.{wire_step}
 use Rattle.wire_steps.proofs.Stepped.{delivers, pulls, is_own, event_stepped, event_over, event_limited, event_plans, plans_as, number_more, event_left, event_counted, own_left}
+use Rattle.wire_steps.proofs.Sounds.{reached_by, goes_on_sound}
 use Rattle.wire_steps.proofs.world.World.step.Goals as goal
 
 pub deliver-requires : goal.deliver-requires
@@ -78,3 +79,18 @@ returns-in-Pull-clause-depot g c =
 pub returns-in-Other-clause-left : goal.returns-in-Other-clause-left
 returns-in-Other-clause-left g c v r h out =
     own_left g.D.Disk.state v _ c.args.self.now c.carry_out.new.self c.args.event.now c.carry_out.result (c.carry_out.ensures.left v r h out)
+
+pub returns-in-Deliver-clause-sound : goal.returns-in-Deliver-clause-sound
+returns-in-Deliver-clause-sound g c run built h out =
+    goes_on_sound g.D.Disk.state g.D.Disk.images run c.args.event.now built c.requires.built _ c.args.self.now c.deliver.new.self c.deliver.result
+    (returns-in-Deliver-clause-done g c _ (reached_by run built) h out)
+
+pub returns-in-Pull-clause-sound : goal.returns-in-Pull-clause-sound
+returns-in-Pull-clause-sound g c run built h out =
+    goes_on_sound g.D.Disk.state g.D.Disk.images run c.args.event.now built c.requires.built _ c.args.self.now c.pull.new.self c.pull.result
+    (returns-in-Pull-clause-done g c _ (reached_by run built) h out)
+
+pub returns-in-Other-clause-sound : goal.returns-in-Other-clause-sound
+returns-in-Other-clause-sound g c run built h out =
+    goes_on_sound g.D.Disk.state g.D.Disk.images run c.args.event.now built c.requires.built _ c.args.self.now c.carry_out.new.self c.carry_out.result
+    (c.carry_out.ensures.done _ (reached_by run built) h out)

@@ -51,7 +51,7 @@ module _ (names : Names) where
   store-told w None early h = new_store_at-limit names w h
   store-told w (Some n) early h =
       let p = new_store_at-ok names w n h in
-      ((ap (λ (v : List ℕ). codes "store" ∷ v ∷ []) p.0, p.1, early, p.2), new_store_at-within names w n h)
+      ((ap (λ (v : List ℕ). codes "store" ∷ v ∷ []) p.0, p.1, early, p.2), rw (new_store_at-within names w n h) refl)
 
   client-told : (w u v : List ℕ) (o : Option ℕ) (t : Option (List ℕ)) → names.started ≡ false → new_client_at names w ≡ Ok o → u ≡ codes "-" → tables_at names v ≡ Ok t
       → Told names verbs.Client (w ∷ u ∷ v ∷ []) (made_client o t)

@@ -1,10 +1,9 @@
 -- What a word is that is right at its place.
-use Rattle.std.proofs.Common.{◌≡◌, ℕ, Bool, true, false, not, eqb, cond, List, ◌∷◌, codes, Option, Some, None, Result, Ok, Err, refl, sym, ap, ◌∙◌, subst}
-use Rattle.std.proofs.Common.{inl, inr, arith, true≢false}
+use Rattle.std.proofs.Common.{◌≡◌, ℕ, Bool, true, false, not, cond, List, ◌∷◌, codes, Option, Some, None, Result, Ok, Err, refl, sym, ap, ◌∙◌, subst}
+use Rattle.std.proofs.Common.{inl, inr, true≢false}
 use Rattle.std.specs.Fmt.{decimal, digits}
 use Rattle.std.specs.Str.{bytes_eq}
-use Rattle.std.proofs.lemmas.Bool.{cases_Bool, eqb-true}
-use Rattle.std.proofs.lemmas.Fmt.{decimal_digit}
+use Rattle.std.proofs.lemmas.Bool.{cases_Bool}
 use Rattle.std.proofs.lemmas.Slice.Eq.{bytes_eq-Decides}
 use Rattle.stab_base.specs.Row.{row_of}
 use Rattle.stab_base.specs.declared.node.Node.{Node}
@@ -15,10 +14,10 @@ use Rattle.script_words.specs.declared.code.Code.{Code}
 use Rattle.script_words.specs.declared.code.Code.TheVariants.{NoNumber, NoName, NoRow, NotDeclared, Twice, Unbuilt}
 use Rattle.script_text.specs.Names.{Names, has_store, has_table, has_name, has_client}
 use Rattle.script_words.specs.Words.{is_name}
-use Rattle.script_text.specs.Places.{◌>>=◌, node_at, built, known, limited_at, passed, fresh, opened, opened_at, client_at, store_at}
+use Rattle.script_text.specs.Places.{◌>>=◌, node_at, known, limited_at, passed, fresh, opened, opened_at, client_at, store_at}
 use Rattle.script_text.specs.Places.{begins_with, party_at, table_at, store_number, table_number}
 use Rattle.script_text.specs.Places.{client_number, new_store_at, new_table_at, new_client_at, gate_at, new_name_at, scheme_at, chunk_at, row_at, found_row}
-use Rattle.script_text.specs.Grammar.{IsChunk, IsUpTo, scheme_word, client_word, table_word, node_word, IsClient, IsTable, IsNode}
+use Rattle.script_text.specs.Grammar.{IsChunk, IsUpTo, scheme_word, client_word, store_word, table_word, node_word, IsClient, IsTable, IsNode}
 use Rattle.script_text.proofs.Steps.{ok_err, bind-ok}
 use Rattle.script_text.proofs.Numbers.{if-ok, unless-ok, some_same, ok_same, none_some, node-some, limited-some}
 
@@ -53,18 +52,6 @@ opened-none : (has : ℕ → Bool) (o : Option ℕ) → opened has o ≡ Ok None
 opened-none has None e = refl
 opened-none has (Some m) e =
     let p = if-ok (has m) (Ok (Some m)) NotDeclared None e in absurd (none_some m (sym (ok_same _ _ p.1)))
-
-built-ok : (o : Option ℕ) (n : ℕ) → built o ≡ Ok (Some n) → (o ≡ Some 1) × (n ≡ 1)
-built-ok None n e = absurd (none_some n (ok_same _ _ e))
-built-ok (Some m) n e =
-    let p = if-ok (eqb m 1) (Ok (Some m)) Unbuilt (Some n) e in
-    let is : m ≡ 1 = eqb-true m 1 p.0 in
-    let same : m ≡ n = some_same _ _ (ok_same _ _ p.1) in (ap Some is, sym same ∙ is)
-
-built-none : (o : Option ℕ) → built o ≡ Ok None → o ≡ None
-built-none None e = refl
-built-none (Some m) e =
-    let p = if-ok (eqb m 1) (Ok (Some m)) Unbuilt None e in absurd (none_some m (sym (ok_same _ _ p.1)))
 
 module _ (judge : Option ℕ → Result (Option ℕ) Code) (P : ℕ → Type 0) (right : (o : Option ℕ) (n : ℕ) → judge o ≡ Ok (Some n) → (o ≡ Some n) × P n) (letter most : ℕ) (word : List ℕ) where
   within : (n : ℕ) → (limited_at letter most word >>= judge) ≡ Ok (Some n) → (limited_at letter most word ≡ Ok (Some n)) × P n
@@ -136,26 +123,17 @@ module _ (names : Names) (word : List ℕ) where
     ]
   ]
 
-  pub new_store_at-ok : (n : ℕ) → new_store_at names word ≡ Ok (Some n) → (word ≡ codes "S1") × (n ≡ 1) × (has_store names 1 ≡ false)
+  pub new_store_at-ok : (n : ℕ) → new_store_at names word ≡ Ok (Some n) → (word ≡ store_word n) × IsUpTo 16 n × (has_store names n ≡ false)
   unfolding new_store_at
-  new_store_at-ok n e =
-      let p = bind-ok (store_number word >>= fresh (has_store names)) built (Some n) e in
-      let q = built-ok p.0 n p.2 in
-      let r = numbered (fresh (has_store names)) _ (fresh-ok (has_store names)) 83 16 word 1 (p.1 ∙ ap Ok q.0) in
-      (r.0 ∙ ap (λ (digits : List ℕ). 83 ∷ digits) (decimal_digit 1 (omega arith)), q.1, r.2)
+  new_store_at-ok n e = numbered (fresh (has_store names)) _ (fresh-ok (has_store names)) 83 16 word n e
 
   pub new_store_at-within : (n : ℕ) → new_store_at names word ≡ Ok (Some n) → passed 7 (store_number word) ≡ None
   unfolding new_store_at
-  new_store_at-within n e =
-      let p = bind-ok (store_number word >>= fresh (has_store names)) built (Some n) e in
-      let q = built-ok p.0 n p.2 in
-      ap (passed 7) (within (fresh (has_store names)) _ (fresh-ok (has_store names)) 83 16 word 1 (p.1 ∙ ap Ok q.0)).0
+  new_store_at-within n e = ap (passed 7) (within (fresh (has_store names)) _ (fresh-ok (has_store names)) 83 16 word n e).0
 
   pub new_store_at-limit : new_store_at names word ≡ Ok None → passed 7 (store_number word) ≡ Some 7
   unfolding new_store_at
-  new_store_at-limit e =
-      let p = bind-ok (store_number word >>= fresh (has_store names)) built None e in
-      above (fresh (has_store names)) 83 16 word 7 (fresh-none (has_store names)) (p.1 ∙ ap Ok (built-none p.0 p.2))
+  new_store_at-limit e = above (fresh (has_store names)) 83 16 word 7 (fresh-none (has_store names)) e
 
   pub new_table_at-ok : (n : ℕ) → new_table_at names word ≡ Ok (Some n) → (word ≡ table_word n) × IsUpTo 64 n × (has_table names n ≡ false)
   unfolding new_table_at

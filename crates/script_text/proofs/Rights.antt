@@ -16,11 +16,11 @@ use Rattle.stab_base.specs.declared.node.Node.TheVariants as nodes
 use Rattle.row_value.specs.declared.schema.Scheme.{Scheme}
 use Rattle.row_value.specs.declared.schema.Scheme.TheVariants as schemes
 use Rattle.script_text.specs.Names.{Names, has_store, has_table, has_name, has_client}
-use Rattle.script_words.specs.Words.{is_number, is_name}
-use Rattle.script_text.specs.Places.{small, node_at, limited_at, store_number, is_comma, parts_at, opened_at, tables_in, client_at, store_at}
+use Rattle.script_words.specs.Words.{is_name}
+use Rattle.script_text.specs.Places.{is_comma, parts_at, opened_at, tables_in, client_at, store_at}
 use Rattle.script_text.specs.Places.{party_at, table_at, new_store_at, new_table_at}
 use Rattle.script_text.specs.Places.{new_client_at, gate_at, tables_at, new_name_at, scheme_at, chunk_at, row_at, found_row}
-use Rattle.script_text.specs.Grammar.{IsChunk, IsUpTo, scheme_word, client_word, table_word, tables_word, node_word, IsClient, IsTable, IsNode}
+use Rattle.script_text.specs.Grammar.{IsChunk, IsUpTo, scheme_word, client_word, store_word, table_word, tables_word, node_word, IsClient, IsTable, IsNode}
 use Rattle.script_text.proofs.Numbers.{node-right, limited-right}
 use Rattle.script_text.proofs.Distinct.{NewTo, distinct-new, distinct-words}
 use Rattle.script_text.proofs.PlaceLemmas.{text-64, text-1024, text-65536}
@@ -56,10 +56,6 @@ party_at-right names (nodes.Store n) h = rw (store_at-right names n h) refl
 party_at-right names (nodes.Gate n) h = absurd h
 party_at-right names (nodes.Client n) h = rw (client_at-right names n h) refl
 
-store-number : store_number (codes "S1") ≡ Ok (Some 1)
-unfolding limited_at node_at is_number small
-store-number = refl
-
 -- the words between commas
 
 not_comma : (b : ℕ) → 48 ≤ b → is_comma b ≡ false
@@ -90,9 +86,9 @@ all_below names [] h = tt
 all_below names (n ∷ tables) h = (omega (arith, h.0.0.1), all_below names tables h.1)
 
 module _ (names : Names) where
-  pub new_store_at-right : has_store names 1 ≡ false → new_store_at names (codes "S1") ≡ Ok (Some 1)
+  pub new_store_at-right : (n : ℕ) → IsUpTo 16 n → has_store names n ≡ false → new_store_at names (store_word n) ≡ Ok (Some n)
   unfolding new_store_at
-  new_store_at-right has = rw (store-number, has) refl
+  new_store_at-right n h new = rw (limited-right 83 16 n h.0 h.1 (omega arith), new) refl
 
   tables_in-right : (before : List (List ℕ)) (tables : List ℕ) → AllByRecursion (λ n. IsUpTo 64 n × (has_table names n ≡ true)) tables → NewTo before (map table_word tables)
       → tables_in names before (map table_word tables) ≡ Ok (Some tables)

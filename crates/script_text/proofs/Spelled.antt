@@ -26,7 +26,7 @@ use Rattle.script_text.specs.Reading.{unlimited, in_time, built_in, event_in, wo
 use Rattle.stab_base.specs.Row.{row_of}
 use Rattle.stab_base.specs.declared.node.Node.{Node}
 use Rattle.script_text.specs.Grammar.{SpelledBy, SpellsStore, SpellsTable, SpellsClient, SpellsWrite, SpellsShow, SpellsSum, SpellsSync}
-use Rattle.script_text.specs.Grammar.{SpellsPull, SpellsDeliver, SpellsStoreShow, SpellsHistory, SpellsChunks, SpellsHold, SpellsFree, SpellsWork, SpellsWorkAll, SpellsStart, SpellsCrash, client_word}
+use Rattle.script_text.specs.Grammar.{SpellsPull, SpellsDeliver, SpellsStoreShow, SpellsHistory, SpellsChunks, SpellsHold, SpellsFree, SpellsWork, SpellsWorkAll, SpellsStart, SpellsCrash, client_word, store_word}
 use Rattle.script_text.specs.Grammar.{scheme_word, SpellsBeginCr, SpellsConflicts, SpellsEndCr, SpellsResolve, SpellsResolveAll}
 use Rattle.script_text.specs.Grammar.{table_word, tables_word, node_word, IsClient, IsTable, IsNode, verb_for, SpellsEdited, SpellsLink}
 use Rattle.script_text.proofs.Numbers.{number_at-right, number_to-right}
@@ -57,9 +57,11 @@ module _ (names : Names) where
   store-right : (ws : List (List ℕ)) (store : ℕ) → SpellsStore names ws store → words_in names ws ≡ Ok (Ok (Some (events.Store store)))
   unfolding store_in
   store-right ws store h =
-      rw (h.0, h.1)
-      (event_in-right names verbs.Store (codes "S1" ∷ []) (events.Store 1)
-      (in_time-right names _ h.2 ∙ word_in-right 1 _ (codes "S1") [] _ (Some 1) (new_store_at-right names h.3) ∙ rw (end_in-right 2) refl))
+      rw h.0
+      (event_in-right names verbs.Store (store_word store ∷ []) (events.Store store)
+      (in_time-right names _ h.2
+      ∙ word_in-right 1 _ (store_word store) [] _ (Some store) (new_store_at-right names store h.1 h.3)
+      ∙ rw (end_in-right 2) refl))
 
   client_table-right : (client table : ℕ) → IsClient names client → IsTable names table → client_table_in names (client_word client ∷ table_word table ∷ []) ≡ Ok (client, table)
   unfolding client_table_in

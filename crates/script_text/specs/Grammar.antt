@@ -63,11 +63,6 @@ IsPassed line = (is_comment line ≡ true) ⊎ (words_of line ≡ [])
 abbrev pub IsEarly : Names → Type 0
 IsEarly names = names.started ≡ false
 
--- `store S1`
-abbrev pub SpellsStore : Names → List (List ℕ) → ℕ → Type 0
-SpellsStore names words store =
-    (words ≡ codes "store" ∷ codes "S1" ∷ []) × (store ≡ 1) × IsEarly names × (has_store names 1 ≡ false)
-
 abbrev pub IsChunk : ℕ → Type 0
 IsChunk chunk = (chunk ≡ 64) ⊎ (chunk ≡ 1024) ⊎ (chunk ≡ 65536)
 
@@ -78,9 +73,18 @@ client_word client = codes "C" ++ decimal client
 abbrev pub table_word : ℕ → List ℕ
 table_word table = codes "T" ++ decimal table
 
+abbrev pub store_word : ℕ → List ℕ
+store_word store = codes "S" ++ decimal store
+
 -- a number that a declaration may give
 abbrev pub IsUpTo : ℕ → ℕ → Type 0
 IsUpTo most n = (1 ≤ n) × (n ≤ most)
+
+-- `store S`
+abbrev pub SpellsStore : Names → List (List ℕ) → ℕ → Type 0
+SpellsStore names words store =
+    (words ≡ codes "store" ∷ store_word store ∷ [])
+    × IsUpTo 16 store × IsEarly names × (has_store names store ≡ false)
 
 -- a number that names a client or a table that is declared
 abbrev pub IsClient : Names → ℕ → Type 0
@@ -282,7 +286,7 @@ abbrev pub SpellsChunks : Names → List (List ℕ) → ℕ → Type 0
 SpellsChunks names words table = (words ≡ codes "chunks" ∷ table_word table ∷ []) × IsTable names table
 
 abbrev pub node_word : Node → List ℕ
-node_word (nodes.Store store) = codes "S" ++ decimal store
+node_word (nodes.Store store) = store_word store
 node_word (nodes.Gate gate) = codes "G" ++ decimal gate
 node_word (nodes.Client client) = client_word client
 

@@ -51,11 +51,6 @@ unfoldable pub node_at : ℕ → List ℕ → Result (Option ℕ) Code
 node_at letter [] = Err NoName
 node_at letter (c ∷ digits) = if (c == letter) && is_number digits then Ok (small digits) else Err NoName
 
--- of the Stores only the first is built
-abbrev pub built : Option ℕ → Result (Option ℕ) Code
-built None = Ok None
-built (Some n) = if n == 1 then Ok (Some n) else Err Unbuilt
-
 -- the first of two that is there
 abbrev pub or_else : Option ℕ → Option ℕ → Option ℕ
 or_else None other = other
@@ -125,7 +120,7 @@ abbrev pub client_number : List ℕ → Result (Option ℕ) Code
 client_number word = limited_at 67 64 word
 
 unfoldable pub new_store_at : Names → List ℕ → Result (Option ℕ) Code
-new_store_at names word = (store_number word >>= fresh (has_store names)) >>= built
+new_store_at names word = store_number word >>= fresh (has_store names)
 
 unfoldable pub new_table_at : Names → List ℕ → Result (Option ℕ) Code
 new_table_at names word = table_number word >>= fresh (has_table names)

@@ -2,7 +2,7 @@ ghost use Rattle.std.specs.Prelude.{◌≡◌, ◌<◌, IsTrue, IfOk, []};
 ghost use Rattle.std.specs.List.{slice_split};
 ghost use Rattle.script_words.specs.Words.{is_number, texts};
 ghost use Rattle.script_words.specs.Codes.{Judges};
-ghost use Rattle.script_text.specs.Places.{small, node_at, limited_at, built, opened_at, joined, alone, client_at};
+ghost use Rattle.script_text.specs.Places.{small, node_at, limited_at, opened_at, joined, alone, client_at};
 ghost use Rattle.script_text.specs.Places.{table_at, new_store_at, new_table_at, new_client_at, gate_at, tables_in};
 ghost use Rattle.script_text.specs.Places.{tables_at, is_comma, seen, new_name_at, scheme_at, chunk_at, row_at};
 ghost use Rattle.script_text.specs.Places.{number_at, number_to, store_at, begins_with, party_at};
@@ -35,16 +35,6 @@ fn node_at(letter: char, word: &str) -> Result<Option<u32>, Code>
     match word.strip_prefix(letter) {
         Some(digits) if is_number(digits) => Ok(small(digits)),
         _ => Err(Code::NoName),
-    }
-}
-
-// Of the Stores only the first is built.
-fn built(number: Option<u32>) -> Result<Option<u32>, Code>
-    ensures { result ≡ built number }
-{
-    match number {
-        Some(number) if number != 1 => Err(Code::Unbuilt),
-        number => Ok(number),
     }
 }
 
@@ -125,7 +115,7 @@ pub(crate) fn new_store_at(names: &Declared, word: &str) -> Result<Option<u32>, 
 {
     match limited_at('S', MOST_STORES, word)? {
         Some(number) if names.has_store(number) => Err(Code::Twice),
-        number => built(number),
+        number => Ok(number),
     }
 }
 

@@ -1,9 +1,11 @@
 pub mod RowNames
+pub mod Bare
 pub mod Events
 pub mod Fronts
 pub mod Grammars
 pub mod Complete
 pub mod OneEnd
+pub mod OneCut
 pub mod Puts
 pub mod Sounds
 pub mod Underway

@@ -15,7 +15,7 @@ use Rattle.simba_top.proofs.Fronts.{Grammar, Rest, rest_of_fronts, front_fits, n
 use Rattle.simba_top.proofs.Complete.{line_apart, no_limit, event_next, not_too_many}
 
 -- the lines behind a front, where a longer one has some
-some_lines : {total : ℕ} {names : Names} {front all : List (List ℕ)} {script whole : List Event} {bytes end : List ℕ} {after : Names}
+pub some_lines : {total : ℕ} {names : Names} {front all : List (List ℕ)} {script whole : List Event} {bytes end : List ℕ} {after : Names}
     → (rest : Rest total names front all script whole bytes end after) → length front < length all → 0 < length rest.lines
 some_lines {front = front} rest longer =
     let e = ap (λ (lines : List (List ℕ)). length lines) rest.more ∙ length-append front rest.lines in omega (arith, e, longer)

@@ -1,7 +1,9 @@
-ghost use Rattle.std.specs.Prelude.{◌≡◌, ◌≤◌, ℕ, List};
+ghost use Rattle.std.specs.Prelude.{◌≡◌, ◌<◌, ◌≤◌, ◌++◌, ℕ, not, List, length};
+ghost use Rattle.percent_encoding.specs.AsciiSet.{should_percent_encode};
 ghost use Rattle.table_model.specs.declared.event.Event.{Event as AnEvent};
 ghost use Rattle.script_text.specs.declared.fault.BadLine.{BadLine as ABadLine};
-ghost use Rattle.simba_top.specs.Limits.{input_most, lines_most, line_most, rows_most, number_most};
+ghost use Rattle.transcript_text.specs.declared.print.TheConstants.{ESCAPED};
+ghost use Rattle.simba_top.specs.Limits.{input_most, lines_most, line_most, rows_most, number_most, is_bare};
 ghost use Rattle.simba_top.specs.Script.{IsWhole};
 ghost use Rattle.simba_top.specs.Ends.{IsBadAt, IsLimitAt, IsCutOff};
 
@@ -10,13 +12,16 @@ use crate::run::MOST_LINES;
 use stab_base::NUMBER_MAX;
 use stab_io::{INPUT_LIMIT, LINE_LIMIT};
 
-/// The program's limits are those of the definition. It has no code: its clauses are the law.
+/// The program's limits, and the bytes of a text cell that it escapes, are those of the definition. It has no code: its
+/// clauses are the law.
 pub fn limits_are_as_defined()
     ensures input { INPUT_LIMIT ≡ input_most }
     ensures lines { MOST_LINES ≡ lines_most }
     ensures line { LINE_LIMIT ≡ line_most }
     ensures rows { MOST_ROWS ≡ rows_most }
     ensures number { NUMBER_MAX ≡ number_most }
+    // Of a text cell all other bytes are written as `%` and two hex digits.
+    ensures escaped { (b : ℕ) → b < 256 → should_percent_encode ESCAPED b ≡ not (is_bare b) }
 {}
 
 /// An input spells one script at most. It has no code: its clause is the law.
@@ -42,4 +47,9 @@ pub fn one_end()
         → IsBadAt input a n fault → (cut : IsCutOff input b left) → cut.count ≤ n }
     ensures limit_cut { (input : List ℕ) (a b : List AnEvent) (n limit : ℕ) (left : List ℕ)
         → IsLimitAt input a n limit → (cut : IsCutOff input b left) → cut.count ≤ n }
+    // Where the source failed with bytes left it gave one script, which is a front of the whole one where there is one.
+    ensures one_cut { (input : List ℕ) (a b : List AnEvent) (left : List ℕ) → 0 < length left
+        → (x : IsCutOff input a left) → (y : IsCutOff input b left) → (a ≡ b) × (x.count ≡ y.count) }
+    ensures whole_cut { (input : List ℕ) (a b : List AnEvent) (left : List ℕ)
+        → IsWhole input a → IsCutOff input b left → (more : List AnEvent) × (a ≡ b ++ more) }
 {}

@@ -1,5 +1,6 @@
 use Rattle.simba_top.proofs.Grammars.{grammar}
 use Rattle.simba_top.proofs.OneEnd.{not_bad, not_limit, bad_limit_apart, bad_is_one, limit_is_one, bad_is_last, limit_is_last}
+use Rattle.simba_top.proofs.OneCut.{cut_is_one, cut_is_front}
 use Rattle.simba_top.proofs.laws.one_end.Goals as goal
 
 pub returns-clause-whole_bad : goal.returns-clause-whole_bad
@@ -22,3 +23,9 @@ returns-clause-bad_cut c = λ input a b n fault left bad cut. bad_is_last gramma
 
 pub returns-clause-limit_cut : goal.returns-clause-limit_cut
 returns-clause-limit_cut c = λ input a b n limit left at cut. limit_is_last grammar input a b n cut.count cut.names _ cut.front limit at
+
+pub returns-clause-one_cut : goal.returns-clause-one_cut
+returns-clause-one_cut c = cut_is_one grammar
+
+pub returns-clause-whole_cut : goal.returns-clause-whole_cut
+returns-clause-whole_cut c = cut_is_front grammar

@@ -1,0 +1,407 @@
+-- What each event with gateways carries of the wire.
+use Rattle.std.proofs.Common.{◌≡◌, inl, inr, ⊎_elim, ℕ, ◌+◌, Bool, true, false, List, [], ◌∷◌, length, Option, Some, None, refl, sym, ◌∙◌, ap, subst, true≢false}
+use Rattle.std.specs.Prelude.{◌==◌, ◌&&◌, map, slice_get, is_some, option_map, if◌then◌else◌}
+use Rattle.std.specs.Ordering.{nat_cmp}
+use Rattle.std.specs.BTreeMap.{insert_entry}
+use Rattle.std.proofs.lemmas.Option.{slice_get-map}
+use Rattle.stab_base.specs.declared.node.Node.{Node}
+use Rattle.stab_base.specs.declared.node.Node.TheVariants as nodes
+use Rattle.stab_base.specs.declared.step.Step.TheVariants as steps
+use Rattle.table_model.specs.declared.event.Event.{Event}
+use Rattle.table_model.specs.declared.event.Event.TheVariants as events
+use Rattle.table_model.specs.declared.message.Message.{Message}
+use Rattle.table_model.specs.declared.message.Message.TheVariants as kinds
+use Rattle.table_model.specs.declared.message.OperationResponse.{OperationResponse}
+use Rattle.table_model.specs.declared.message.RestoreClientSubscriptions.{RestoreClientSubscriptions}
+use Rattle.step_tables.specs.Facts.{Answer, Refusal, Line, AnswerLine}
+use Rattle.step_tables.specs.Facts as facts
+use Rattle.step_tables.specs.Members.{Among}
+use Rattle.step_tables.specs.Messages.{Luck}
+use Rattle.step_tables.specs.Messages as messages
+use Rattle.step_tables.specs.ClientMoves.{TableDisk, Client, ClientTask, table_at, seen}
+use Rattle.step_tables.proofs.Lists.{among_get, among_none, among_cons}
+use Rattle.world_tables.specs.Sound.{is_declaration}
+use Rattle.world_tables.specs.World.{Lucks, owner_of, client_at, is_client_down, is_cut, hosted_at, busy_table, first_luck}
+use Rattle.fair_laws.specs.Reached.{IsBuilt}
+use Rattle.part_tables.specs.Parts.{Part, Asks, Responds, Pulls, Answers, BringsUp, BringsDown, AsksTorn, AnswersTorn}
+use Rattle.message_parts.specs.Parts.{part_of}
+use Rattle.part_tables.specs.Arriving.{Arrived, arrived}
+use Rattle.part_tables.specs.ClientParts as at_client
+use Rattle.wire_tables.specs.Wire.{PartPacket, Wire, WireStep, part_table, arriving_at, with_arriving, waits, by_table, untaken, by_client, brought, delivered, wire_step}
+use Rattle.wire_tables.specs.Wire as wires
+use Rattle.wire_laws.proofs.Places.{place_of}
+use Rattle.gate_tables.specs.Gate.{Gateway, Running, Sends}
+use Rattle.gate_tables.specs.Gate as gate
+use Rattle.gated_tables.specs.Devices.{Device, part_client}
+use Rattle.gated_tables.specs.Net.{Sent, Net, NetStep, gate_at, device_at, has_none, still, refused, unless_down, is_node_down, sending, cutting, cut_by, with_device, restarted, asks_again}
+use Rattle.gated_tables.specs.Net.{carried_on}
+use Rattle.gated_tables.specs.Net.{client_taken, asks_session, answered, if_idle, agenda_in, answer_taken, to_client, restoring, busy_with, restored, to_store, directory_of, with_running}
+use Rattle.gated_tables.specs.Net.{sent_of, gate_done, to_gate}
+use Rattle.gated_tables.specs.Net.{delivered_to, relinked, linked, gate_crashed, gate_started, client_started, net_step_of}
+use Rattle.gated_tables.specs.Net as net
+use Rattle.gated_laws.specs.Carried.{IsNoGate, IsEventCarried, IsLoneAnswer, AreLone, IsLone}
+use Rattle.gated_laws.proofs.HandedOn.{way_of, AreHandedOn, handed_on}
+use Rattle.gated_laws.proofs.NetLines.{to_of, wires_to}
+use Rattle.gated_laws.proofs.KeptWires.{ComesFrom, IsPartAddressed, parts_go, KeepsWire, step_keeps, IsLinked, none_linked, cut_linked}
+use Rattle.gated_laws.proofs.KeptNets.{IsGate, IsSentAs, AreParts, IsKeptNet, no_part, none_asked, IsLinkedNet, gates_linked, cut_net, device_net, Carries, then_carries, shares, stays_alone}
+use Rattle.gated_laws.proofs.KeptNets.{answers_alone, unless_node_down, itself}
+use Rattle.gated_laws.proofs.KeptNets.{sends_alone}
+
+-- ---- a part that comes to a Store is its client's
+
+from_client : (owners : ℕ → ℕ) (part : Part) (from to : Node) (number : ℕ) → ComesFrom part from → to ≡ way_of owners part → to ≡ nodes.Store number → from ≡ nodes.Client (part_client part)
+from_client owners (Asks head) from to number c g is = c
+from_client owners (Responds r) from to number c g is = absurd (let both : nodes.Store number ≡ nodes.Client r.client = sym is ∙ g in cc)
+from_client owners (Pulls q) from to number c g is = c
+from_client owners (Answers p) from to number c g is = absurd (let both : nodes.Store number ≡ nodes.Client p.client = sym is ∙ g in cc)
+from_client owners (BringsUp f) from to number c g is = c
+from_client owners (BringsDown f) from to number c g is = absurd (let both : nodes.Store number ≡ nodes.Client f.client = sym is ∙ g in cc)
+from_client owners (AsksTorn q) from to number c g is = c
+from_client owners (AnswersTorn t) from to number c g is = absurd (let both : nodes.Store number ≡ nodes.Client t.client = sym is ∙ g in cc)
+
+-- ---- from where a part comes to a client makes no difference
+
+module _ (v : Wire) (c : ℕ) (part : Part) (from other : Node) (lucks : Lucks) where
+  abbrev one : PartPacket
+  one = record { from = from; to = nodes.Client c; part = part }
+
+  abbrev two : PartPacket
+  two = record { from = other; to = nodes.Client c; part = part }
+
+  from_unread : brought v one lucks (nodes.Client c) ≡ brought v two lucks (nodes.Client c)
+  from_unread = go (is_cut v.world c)
+    where
+      by_luck : (kept : Wire) (luck : Luck) → waits v kept one lucks luck ≡ waits v kept two lucks luck
+      by_luck kept messages.Done = refl
+      by_luck kept messages.FailedBefore = refl
+      by_luck kept messages.FailedAfter = refl
+
+      by_taken : (x : Arrived) (t : at_client.Taken) → wires.client_taken v c one lucks (record x { taken = t }) ≡ wires.client_taken v c two lucks (record x { taken = t })
+      by_taken x (at_client.Whole message) = refl
+      by_taken x (at_client.Tears row) = refl
+      by_taken x at_client.Waits = by_luck (with_arriving c x.arriving v) (first_luck lucks.calls)
+
+      by_opened : (o : Option TableDisk) → by_table v c one lucks o ≡ by_table v c two lucks o
+      by_opened None = refl
+      by_opened (Some opened) = let x : Arrived = arrived opened (arriving_at v c) part in by_taken x x.taken
+
+      by_agenda : (node : Client) (agenda : Option (List ClientTask))
+          → by_client v c one lucks (Some (record node { agenda = agenda })) ≡ by_client v c two lucks (Some (record node { agenda = agenda }))
+      by_agenda node None = refl
+      by_agenda node (Some (task ∷ more)) = refl
+      by_agenda node (Some []) = by_opened (table_at (seen node.disk) (part_table part))
+
+      by_node : (o : Option Client) → by_client v c one lucks o ≡ by_client v c two lucks o
+      by_node None = refl
+      by_node (Some node) = by_agenda node node.agenda
+
+      go : (b : Bool) → (if b then untaken v one lucks else by_client v c one lucks (client_at v.world c)) ≡ (if b then untaken v two lucks else by_client v c two lucks (client_at v.world c))
+      go true = refl
+      go false = by_node (client_at v.world c)
+
+-- ---- answers alone
+
+alone : (answer : Answer) → IsLoneAnswer answer → AreLone (AnswerLine answer ∷ [])
+alone answer is = record { answer = answer; is = is; told = []; sent = tt; lines_are = refl }
+
+module _ (n : Net) (k : IsKeptNet n) where
+  -- ---- deliveries of parts
+
+  to_there : (number : ℕ) (p : Sent) → slice_get n.sent number ≡ Some p → slice_get (to_of n.sent) number ≡ Some p.to
+  to_there number p at = slice_get-map (λ (x : Sent). x.to) n.sent number ∙ ap (option_map (λ (x : Sent). x.to)) at
+
+  -- the wire's delivery of a packet
+  module _ (v : Wire) (before : IsLinked n.wire v) (number : ℕ) (p : Sent) (at : slice_get n.sent number ≡ Some p) (packet : PartPacket) (a : Among n.wire.packets packet) (to : Node)
+      (party : IsNoGate to) (here : p.to ≡ to) (same : packet.to ≡ to) (lucks : Lucks) where
+    abbrev place : (j : ℕ) × (slice_get v.packets j ≡ Some packet)
+    place = place_of v.packets packet (subst (λ (ps : List PartPacket). Among ps packet) (sym before.packets) a)
+
+    is_delivered : wire_step v (events.Deliver place.0) lucks ≡ brought v packet lucks to
+    is_delivered = ap (delivered v lucks) place.1 ∙ ap (brought v packet lucks) same
+
+    packet_carries : Carries n (events.Deliver number) (carried_on n (brought v packet lucks to))
+    packet_carries =
+        let s : KeepsWire v (wire_step v (events.Deliver place.0) lucks).wire = step_keeps v before.kept (events.Deliver place.0) refl tt lucks in
+        subst (λ (x : WireStep). Carries n (events.Deliver number) (carried_on n x)) is_delivered
+        (shares n k v before (events.Deliver number) (events.Deliver place.0) lucks tt (
+          to,
+          place.0,
+          party,
+          to_there number p at ∙ ap (λ (x : Node). Some x) here,
+          refl,
+          slice_get-map (λ (x : PartPacket). x.to) v.packets place.0 ∙ (ap (option_map (λ (x : PartPacket). x.to)) place.1 ∙ ap (λ (x : Node). Some x) same),
+        ) s.kept s.clients)
+
+  goes_there : (p : Sent) (part : Part) (to : Node) → IsNoGate to → p.to ≡ to → (a : IsSentAs n.wire p.to part) → a.packet.to ≡ to
+  goes_there p part to party here a = ⊎_elim (λ e. sym e ∙ here) (λ gate. absurd (not_gate to party (subst IsGate here gate))) a.to_is
+    where
+      not_gate : (x : Node) → IsNoGate x → IsGate x → ⊥
+      not_gate (nodes.Gate g) party is = party
+      not_gate other party is = is
+
+  module _ (number : ℕ) (p : Sent) (at : slice_get n.sent number ≡ Some p) (part : Part) (is : part_of p.message ≡ Some part) (lucks : Lucks) where
+    abbrev sent_as : IsSentAs n.wire p.to part
+    sent_as = k.sent p (among_get n.sent number p at) part is
+
+    -- to a Store
+    store_carries : (m : ℕ) → p.to ≡ nodes.Store m
+        → Carries n (events.Deliver number) (carried_on n (brought n.wire (record { from = nodes.Client (part_client part); to = p.to; part = part }) lucks (nodes.Store m)))
+    store_carries m here =
+        subst (λ (x : PartPacket). Carries n (events.Deliver number) (carried_on n (brought n.wire x lucks (nodes.Store m)))) whole
+        (packet_carries n.wire (none_linked n.wire k.wire) number p at sent_as.packet sent_as.stands (nodes.Store m) tt here there lucks)
+      where
+        there : sent_as.packet.to ≡ nodes.Store m
+        there = goes_there p part (nodes.Store m) tt here sent_as
+
+        addressed : IsPartAddressed (owner_of n.wire.world) sent_as.packet
+        addressed = parts_go n.wire k.wire sent_as.packet sent_as.stands
+
+        comes : sent_as.packet.from ≡ nodes.Client (part_client part)
+        comes = from_client (owner_of n.wire.world) sent_as.packet.part sent_as.packet.from sent_as.packet.to m addressed.from addressed.to there
+            ∙ ap (λ (x : Part). nodes.Client (part_client x)) sent_as.part_is
+
+        whole : sent_as.packet ≡ record { from = nodes.Client (part_client part); to = p.to; part = part }
+        whole = ap (λ (x : Node). record { from = x; to = sent_as.packet.to; part = sent_as.packet.part }) comes
+            ∙ (ap (λ (x : Node). record { from = nodes.Client (part_client part); to = x; part = sent_as.packet.part }) (there ∙ sym here)
+            ∙ ap (λ (x : Part). record { from = nodes.Client (part_client part); to = p.to; part = x }) sent_as.part_is)
+
+    -- to a client
+    client_carries : (v : Wire) → IsLinked n.wire v → (c : ℕ) → p.to ≡ nodes.Client c
+        → Carries n (events.Deliver number) (carried_on n (brought v (record { from = p.from; to = p.to; part = part }) lucks (nodes.Client c)))
+    client_carries v before c here =
+        subst (λ (x : WireStep). Carries n (events.Deliver number) (carried_on n x)) same
+        (packet_carries v before number p at sent_as.packet sent_as.stands (nodes.Client c) tt here there lucks)
+      where
+        there : sent_as.packet.to ≡ nodes.Client c
+        there = goes_there p part (nodes.Client c) tt here sent_as
+
+        same : brought v sent_as.packet lucks (nodes.Client c) ≡ brought v (record { from = p.from; to = p.to; part = part }) lucks (nodes.Client c)
+        same =
+            ap (λ (x : Node). brought v (record { from = sent_as.packet.from; to = x; part = sent_as.packet.part }) lucks (nodes.Client c)) there
+            ∙ (ap (λ (x : Part). brought v (record { from = sent_as.packet.from; to = nodes.Client c; part = x }) lucks (nodes.Client c)) sent_as.part_is
+            ∙ (from_unread v c part sent_as.packet.from p.from lucks
+            ∙ ap (λ (x : Node). brought v (record { from = p.from; to = x; part = part }) lucks (nodes.Client c)) (sym here)))
+
+    taken_carries : (c : ℕ) → p.to ≡ nodes.Client c → is_client_down (client_at n.wire.world c) ≡ false → (o : Option Device) → device_at n c ≡ o
+        → Carries n (events.Deliver number) (client_taken n c (record { from = p.from; to = p.to; part = part }) lucks o)
+    taken_carries c here up None none = client_carries n.wire (none_linked n.wire k.wire) c here
+    taken_carries c here up (Some d) some = then_carries n (events.Deliver number) (carried_on n s) first (cut_by c d (carried_on n s).net)
+        (cut_net (carried_on n s).net first.kept c d (first.kept.devices c d some))
+      where
+        v : Wire
+        v = cutting c d.linked n.wire
+
+        s : WireStep
+        s = brought (cutting c d.linked n.wire) (record { from = p.from; to = p.to; part = part }) lucks (nodes.Client c)
+
+        first : Carries n (events.Deliver number) (carried_on n s)
+        first = client_carries (cutting c d.linked n.wire) (cut_linked n.wire k.wire c d.linked (k.devices c d some) up) c here
+
+  -- ---- deliveries of what is no part
+
+  -- a client asks for a session
+  no_parts : (v : Wire) (c : ℕ) (o : Option Device) → AreParts v (asks_again c o)
+  no_parts v c o p a part is = no_part (part_of p.message) part (none_asked n c o p a) is
+
+  session_asked : (event : Event) (c : ℕ) (d : Device) (later : Net) → ((ls : List Line) → AreLone ls → IsLone event ls) → IsLinkedNet n later → Carries n event (asks_session later c d)
+  session_asked event c d later lone l = sends_alone n k event later (asks_again c (Some d)) lone l (no_parts later.wire c (Some d))
+
+  module _ (number : ℕ) (lucks : Lucks) where
+    abbrev deliver : Event
+    deliver = events.Deliver number
+
+    done_alone : Carries n deliver (still n facts.Done)
+    done_alone = answers_alone n k deliver facts.Done (alone facts.Done tt)
+
+    answered_carries : (c : ℕ) (m : OperationResponse) (d : Device) → is_some (client_at n.wire.world c) ≡ true → Carries n deliver (answered n c m d)
+    answered_carries c m d there = go (m.status == 19) ((m.status == 0) && (m.answered == 1))
+      where
+        none : Device
+        none = record d { token = None }
+
+        some : Device
+        some = record d { token = Some m.token }
+
+        go : (a b : Bool) → Carries n deliver (if a then asks_session (with_device c (record d { token = None }) n) c d
+            else (if b then still (with_device c (record d { token = Some m.token }) n) facts.Done else still n facts.Done))
+        go true b = session_asked deliver c d (with_device c none n) (λ ls are. are) (device_net n k c none there)
+        go false true = stays_alone n k deliver (with_device c some n) facts.Done (alone facts.Done tt) (device_net n k c some there)
+        go false false = done_alone
+
+    idle_carries : (o : Option (List ClientTask)) (x : NetStep) → Carries n deliver x → Carries n deliver (if_idle n lucks o x)
+    idle_carries None x c = c
+    idle_carries (Some []) x c = c
+    idle_carries (Some (task ∷ tasks)) x c = answers_alone n k deliver (facts.Refuses (facts.Busy lucks.shape.plan)) (alone (facts.Refuses (facts.Busy lucks.shape.plan)) tt)
+
+    answer_carries : (c : ℕ) (m : OperationResponse) (o : Option Device) → device_at n c ≡ o → Carries n deliver (answer_taken n c m lucks o)
+    answer_carries c m None none = done_alone
+    answer_carries c m (Some d) some = go d.linked
+      where
+        go : (b : Bool) → Carries n deliver (if b then if_idle n lucks (agenda_in (client_at n.wire.world c)) (answered n c m d) else refused n facts.Offline)
+        go true = idle_carries (agenda_in (client_at n.wire.world c)) (answered n c m d) (answered_carries c m d (k.devices c d some))
+        go false = answers_alone n k deliver (facts.Refuses facts.Offline) (alone (facts.Refuses facts.Offline) tt)
+
+    message_to_client : (c : ℕ) (p : Sent) (m : Message) → Carries n deliver (to_client n c (record p { message = m }) lucks None)
+    message_to_client c p (kinds.OperationResponse m) = answer_carries c m (device_at n c) refl
+    message_to_client c p other = done_alone
+
+    restored_carries : (m : ℕ) (p : Sent) (r : RestoreClientSubscriptions) (o : Option ℕ) → Carries n deliver (restored n m p r o)
+    restored_carries m p r None = go r.reply
+      where
+        none : AreParts n.wire (restoring m p r ∷ [])
+        none q a part is = no_part (part_of q.message) part (⊎_elim (λ e. ap (λ (x : Sent). part_of x.message) (sym e)) (λ more. absurd (among_none q more)) (among_cons (restoring m p r) [] q a)) is
+
+        go : (b : Bool) → Carries n deliver (if b then still n facts.Done else sending n (restoring m p r ∷ []))
+        go true = done_alone
+        go false = sends_alone n k deliver n (restoring m p r ∷ []) (λ ls are. are) (itself n k) none
+    restored_carries m p r (Some table) =
+        let busy : Answer = facts.Refuses (facts.Busy (busy_with (hosted_at n.wire.world table))) in answers_alone n k deliver busy (alone busy tt)
+
+    message_to_store : (m : ℕ) (p : Sent) (msg : Message) → Carries n deliver (to_store n m (record p { message = msg }) lucks None)
+    message_to_store m p (kinds.RestoreClientSubscriptions r) = restored_carries m p r (busy_table n.wire.world m)
+    message_to_store m p other = done_alone
+
+    -- to a gateway, which hands on what came
+    handed_sent : (g : ℕ) (p : Sent) → Among n.sent p → (sends : Sends) → AreHandedOn n.wire.world p.message sends → AreParts n.wire (map (sent_of g) sends)
+    handed_sent g p a [] all q b part is = absurd (among_none q b)
+    handed_sent g p a (send ∷ sends) all q b part is = ⊎_elim
+        (λ e. first (ap (λ (x : Sent). part_of x.message) e ∙ is) (ap (λ (x : Sent). x.to) e)) (λ more. handed_sent g p a sends all.1 q more part is)
+        (among_cons (sent_of g send) (map (sent_of g) sends) q b)
+      where
+        first : part_of send.1 ≡ Some part → send.0 ≡ q.to → IsSentAs n.wire q.to part
+        first part_is to_is =
+            let h = all.0 part part_is in
+            let x : IsSentAs n.wire p.to part = k.sent p a part h.0 in
+            record {
+              packet = x.packet;
+              stands = x.stands;
+              part_is = x.part_is;
+              to_is = inl (sym to_is ∙ (h.1 ∙ sym ((parts_go n.wire k.wire x.packet x.stands).to ∙ ap (way_of (owner_of n.wire.world)) x.part_is)));
+            }
+
+    running_carries : (g starts : ℕ) (p : Sent) → Among n.sent p → (running : Running)
+        → Carries n deliver (gate_done n g starts (gate.taken (directory_of n.wire.world) g starts running p.from p.message))
+    running_carries g starts p a running =
+        let d : gate.Done = gate.taken (directory_of n.wire.world) g starts running p.from p.message in
+        sends_alone n k deliver (with_running g starts d.running n) (map (sent_of g) d.sends) (λ ls are. are) (gates_linked n (with_running g starts d.running n).gates k)
+        (handed_sent g p a d.sends (handed_on n.wire.world g starts running p.from p.message))
+
+    gate_carries : (g : ℕ) (p : Sent) → Among n.sent p → (o : Option Gateway) → Carries n deliver (to_gate n g p o)
+    gate_carries g p a None = done_alone
+    gate_carries g p a (Some gateway) = go gateway.running
+      where
+        go : (o : Option Running) → Carries n deliver (to_gate n g p (Some (record gateway { running = o })))
+        go None = done_alone
+        go (Some running) = running_carries g gateway.starts p a running
+
+    -- ---- any delivery
+
+    down_lone : (node : Node) → AreLone (AnswerLine (facts.Refuses (facts.NodeDown node)) ∷ [])
+    down_lone node = alone (facts.Refuses (facts.NodeDown node)) tt
+
+    node_carries : (p : Sent) → slice_get n.sent number ≡ Some p → (to : Node) → p.to ≡ to → Carries n deliver (delivered_to n p lucks to)
+    node_carries p at (nodes.Store m) here = unless_node_down n k deliver (nodes.Store m) (to_store n m p lucks (part_of p.message)) (down_lone (nodes.Store m)) (λ up. go (part_of p.message) refl)
+      where
+        go : (o : Option Part) → part_of p.message ≡ o → Carries n deliver (to_store n m p lucks o)
+        go None is = message_to_store m p p.message
+        go (Some part) is = store_carries number p at part is lucks m here
+    node_carries p at (nodes.Client c) here = unless_node_down n k deliver (nodes.Client c) (to_client n c p lucks (part_of p.message)) (down_lone (nodes.Client c))
+        (λ up. go up (part_of p.message) refl)
+      where
+        go : is_node_down n (nodes.Client c) ≡ false → (o : Option Part) → part_of p.message ≡ o → Carries n deliver (to_client n c p lucks o)
+        go up None is = message_to_client c p p.message
+        go up (Some part) is = taken_carries number p at part is lucks c here up (device_at n c) refl
+    node_carries p at (nodes.Gate g) here =
+        unless_node_down n k deliver (nodes.Gate g) (to_gate n g p (gate_at n g)) (down_lone (nodes.Gate g)) (λ up. gate_carries g p (among_get n.sent number p at) (gate_at n g))
+
+    deliver_carries : (o : Option Sent) → slice_get n.sent number ≡ o → Carries n deliver (net.delivered n lucks o)
+    deliver_carries None at = let none : Answer = facts.Refuses (facts.NoPacket (length n.sent)) in answers_alone n k deliver none (alone none tt)
+    deliver_carries (Some p) at = node_carries p at p.to refl
+
+  -- ---- the wire's own events
+
+  own_event : (event : Event) → is_declaration event ≡ false → IsBuilt event → (lucks : Lucks) → IsEventCarried (to_of n.sent) (wires_to n.wire.packets) event event
+      → Carries n event (carried_on n (wire_step n.wire event lucks))
+  own_event event plain built lucks carried =
+      let s : KeepsWire n.wire (wire_step n.wire event lucks).wire = step_keeps n.wire k.wire event plain built lucks in
+      shares n k n.wire (none_linked n.wire k.wire) event event lucks built carried s.kept s.clients
+
+  -- ---- links
+
+  relinked_carries : (c : ℕ) (up : Bool) (d : Device) → is_some (client_at n.wire.world c) ≡ true → Carries n (events.Link c up) (relinked n c up d)
+  relinked_carries c true d there = go d.linked
+    where
+      up : Device
+      up = record d { linked = true }
+
+      go : (b : Bool) → Carries n (events.Link c true) (if b then still n facts.Done else asks_session (with_device c up n) c up)
+      go true = answers_alone n k (events.Link c true) facts.Done (alone facts.Done tt)
+      go false = session_asked (events.Link c true) c up (with_device c up n) (λ ls are. are) (device_net n k c up there)
+  relinked_carries c false d there =
+      let down : Device = record d { linked = false } in
+      stays_alone n k (events.Link c false) (with_device c down n) facts.Done (alone facts.Done tt) (device_net n k c down there)
+
+  linked_carries : (c : ℕ) (up : Bool) (lucks : Lucks) (o : Option Device) → device_at n c ≡ o → Carries n (events.Link c up) (linked n c up lucks o)
+  linked_carries c up lucks None none = own_event (events.Link c up) refl tt lucks refl
+  linked_carries c up lucks (Some d) some =
+      unless_node_down n k (events.Link c up) (nodes.Client c) (relinked n c up d) (alone (facts.Refuses (facts.NodeDown (nodes.Client c))) tt)
+      (λ is_up. relinked_carries c up d (k.devices c d some))
+
+  -- ---- a client that starts
+
+  started_carries : (c : ℕ) (lucks : Lucks) → Carries n (events.Start (nodes.Client c)) (client_started n c lucks)
+  started_carries c lucks = go (is_client_down (client_at n.wire.world c))
+    where
+      start : Event
+      start = events.Start (nodes.Client c)
+
+      s : NetStep
+      s = carried_on n (wire_step n.wire start lucks)
+
+      first : Carries n start s
+      first = own_event start refl tt lucks refl
+
+      later : (o : Option Device) → device_at n c ≡ o → IsLinkedNet s.net (restarted c o s.net)
+      later None none = itself s.net first.kept
+      later (Some d) some = device_net s.net first.kept c (record d { token = None }) (first.kept.devices c d some)
+
+      go : (b : Bool) → Carries n start (if b then record s { net = restarted c (device_at n c) s.net } else s)
+      go true = then_carries n start s first (restarted c (device_at n c) s.net) (later (device_at n c) refl)
+      go false = first
+
+  -- ---- what is done to a gateway
+
+  crashed_carries : (g calls pick : ℕ) (o : Option Gateway) → Carries n (events.Crash (nodes.Gate g) calls pick) (gate_crashed n g o)
+  crashed_carries g calls pick None = answers_alone n k (events.Crash (nodes.Gate g) calls pick) facts.Done (inl refl)
+  crashed_carries g calls pick (Some gateway) = stays_alone n k (events.Crash (nodes.Gate g) calls pick) _ facts.Done (inl refl) (gates_linked n _ k)
+
+  gate_starts : (g : ℕ) (o : Option Gateway) → Carries n (events.Start (nodes.Gate g)) (gate_started n g o)
+  gate_starts g None = answers_alone n k (events.Start (nodes.Gate g)) facts.Done refl
+  gate_starts g (Some gateway) = go (has_none gateway.running)
+    where
+      later : Net
+      later = record n { gates = insert_entry nat_cmp n.gates g (gate.started gateway (gateway.starts + 1)) }
+
+      go : (b : Bool) → Carries n (events.Start (nodes.Gate g)) (if b then still later facts.Done else still n facts.Done)
+      go true = stays_alone n k (events.Start (nodes.Gate g)) later facts.Done refl (gates_linked n later.gates k)
+      go false = answers_alone n k (events.Start (nodes.Gate g)) facts.Done refl
+
+  -- ---- every event that declares nothing
+
+  pub carries : (event : Event) → is_declaration event ≡ false → IsBuilt event → (lucks : Lucks) → Carries n event (net_step_of n event lucks)
+  carries (events.Client c gate tables) plain built lucks = absurd (true≢false plain)
+  carries (events.Deliver number) plain built lucks = deliver_carries number lucks (slice_get n.sent number) refl
+  carries (events.Link c up) plain built lucks = linked_carries c up lucks (device_at n c) refl
+  carries (events.Start (nodes.Client c)) plain built lucks = started_carries c lucks
+  carries (events.Hold (nodes.Gate g)) plain built lucks =
+      unless_node_down n k (events.Hold (nodes.Gate g)) (nodes.Gate g) _ refl (λ up. own_event (events.Hold (nodes.Gate g)) refl tt lucks refl)
+  carries (events.Free (nodes.Gate g)) plain built lucks =
+      unless_node_down n k (events.Free (nodes.Gate g)) (nodes.Gate g) _ refl (λ up. own_event (events.Free (nodes.Gate g)) refl tt lucks refl)
+  carries (events.Work (nodes.Gate g)) plain built lucks =
+      unless_node_down n k (events.Work (nodes.Gate g)) (nodes.Gate g) _ (inr refl) (λ up. answers_alone n k (events.Work (nodes.Gate g)) (facts.Did steps.Idle) (inl refl))
+  carries (events.WorkAll (nodes.Gate g)) plain built lucks =
+      unless_node_down n k (events.WorkAll (nodes.Gate g)) (nodes.Gate g) _ (inr refl) (λ up. answers_alone n k (events.WorkAll (nodes.Gate g)) (facts.Number 0) (inl refl))
+  carries (events.Crash (nodes.Gate g) calls pick) plain built lucks =
+      unless_node_down n k (events.Crash (nodes.Gate g) calls pick) (nodes.Gate g) _ (inr refl) (λ up. crashed_carries g calls pick (gate_at n g))
+  carries (events.Start (nodes.Gate g)) plain built lucks = gate_starts g (gate_at n g)
+  carries other plain built lucks = own_event other plain built lucks refl

@@ -1,0 +1,301 @@
+-- What a net keeps beside its wire: each client that has a gateway is there, and each message that is a part was sent on
+-- the wire, on its way.
+use Rattle.std.proofs.Common.{◌≡◌, ◌⊎◌, inl, inr, ⊎_elim, ℕ, Bool, true, false, List, [], ◌∷◌, ◌++◌, length, Option, Some, None, refl, sym, ◌∙◌, ap, subst, append-nil}
+use Rattle.std.specs.Prelude.{map, is_some, if◌then◌else◌}
+use Rattle.std.specs.List.{flat_map}
+use Rattle.std.specs.Ordering.{nat_cmp}
+use Rattle.std.specs.BTreeMap.{insert_entry}
+use Rattle.std.proofs.lemmas.List.{map-append}
+use Rattle.stab_base.specs.declared.node.Node.{Node}
+use Rattle.stab_base.specs.declared.node.Node.TheVariants as nodes
+use Rattle.table_model.specs.declared.event.Event.{Event}
+use Rattle.step_tables.specs.Facts.{Fact, Answer, AnswerLine, FactLine, Line}
+use Rattle.step_tables.specs.Facts as facts
+use Rattle.step_tables.specs.Members.{Among}
+use Rattle.step_tables.proofs.Lists.{among_none, among_cons, among_left, among_either, among_right, among_mapped}
+use Rattle.world_tables.specs.Quiet.{sent_in}
+use Rattle.world_tables.specs.World.{Lucks, client_at, is_client_down}
+use Rattle.fair_laws.specs.Reached.{IsBuilt}
+use Rattle.fair_laws.proofs.Hosting.{all_after}
+use Rattle.part_tables.specs.Parts.{Part}
+use Rattle.message_parts.specs.Parts.{part_of, message_at}
+use Rattle.wire_tables.specs.Wire.{PartPacket, PartOutbox, Wire, WireStep, wire_step}
+use Rattle.wire_tables.specs.Wire as wires
+use Rattle.wire_laws.proofs.Places.{flat_member, member_flat}
+use Rattle.gated_tables.specs.Devices.{Device, is_online, or_zero}
+use Rattle.gated_tables.specs.Net.{Sent, Net, NetStep, NetOutbox, device_at, lines_of, still, refused, unless_down, is_node_down, sending, cutting, cut_by, with_device, sent_by, sent_to}
+use Rattle.gated_tables.specs.Net.{routed_to, routed_from, routed}
+use Rattle.gated_tables.specs.Net.{asks_again, asks_by, out_of, carried_on}
+use Rattle.gated_laws.specs.Carried.{AreLone, IsLone, IsEventCarried, AreLinesCarried}
+use Rattle.gated_laws.proofs.Addressed.{ClientsStay}
+use Rattle.gated_laws.proofs.Remembered.{shaped}
+use Rattle.gated_laws.proofs.HandedOn.{part_back, part_stamped}
+use Rattle.gated_laws.proofs.NetLines.{to_of, wires_to, packets_by, sent_facts, all_sent, lines_carried, carried_sends, wire_sends, sending_lines, sending_sends}
+use Rattle.gated_laws.proofs.NetLines as lines
+use Rattle.gated_laws.proofs.KeptWires.{IsKeptWire, plain_step, IsLinked, none_linked, then_linked, cut_linked}
+
+abbrev pub IsGate : Node → Type 0
+IsGate (nodes.Gate number) = Unit {0}
+IsGate other = ⊥
+
+-- the message is of this part, which the wire has sent, and goes as it does, or to a gateway
+pub record IsSentAs (v : Wire) (to : Node) (part : Part) : Type 0 where
+  pub packet : PartPacket
+  pub stands : Among v.packets packet
+  pub part_is : packet.part ≡ part
+  pub to_is : (to ≡ packet.to) ⊎ IsGate to
+
+abbrev pub AreParts : Wire → List Sent → Type 0
+AreParts v sent = (p : Sent) → Among sent p → (part : Part) → part_of p.message ≡ Some part → IsSentAs v p.to part
+
+pub record IsKeptNet (n : Net) : Type 0 where
+  pub wire : IsKeptWire n.wire
+  pub devices : (c : ℕ) (d : Device) → device_at n c ≡ Some d → is_some (client_at n.wire.world c) ≡ true
+  pub sent : AreParts n.wire n.sent
+
+more_sent : (v later : Wire) (more : List PartPacket) → later.packets ≡ v.packets ++ more → (to : Node) (part : Part) → IsSentAs v to part → IsSentAs later to part
+more_sent v later more same to part a = record {
+  packet = a.packet;
+  stands = subst (λ (ps : List PartPacket). Among ps a.packet) (sym same) (among_left v.packets more a.packet a.stands);
+  part_is = a.part_is;
+  to_is = a.to_is;
+}
+
+same_sent : (v later : Wire) → later.packets ≡ v.packets → (to : Node) (part : Part) → IsSentAs v to part → IsSentAs later to part
+same_sent v later same to part a = record { packet = a.packet; stands = subst (λ (ps : List PartPacket). Among ps a.packet) (sym same) a.stands; part_is = a.part_is; to_is = a.to_is }
+
+pub no_part : {P : Type 0} (o : Option Part) (part : Part) → o ≡ None → o ≡ Some part → P
+no_part o part none is = absurd (let both : None ≡ Some part = sym none ∙ is in cc)
+
+-- ---- what is sent on its way
+
+module _ (n : Net) where
+  -- a packet's message, straight or to a gateway
+  abbrev IsRouted : PartPacket → Sent → Type 0
+  IsRouted p one = (part_of one.message ≡ Some p.part) × ((one.to ≡ p.to) ⊎ IsGate one.to)
+
+  by_routed : (p : PartPacket) (c : ℕ) (o : Option Device) → IsRouted p (sent_by p c o)
+  by_routed p c None = (part_back p.part, inl refl)
+  by_routed p c (Some d) = (part_stamped (or_zero d.token) (message_at p.part) ∙ part_back p.part, inr tt)
+
+  to_routed : (p : PartPacket) (o : Option Device) → IsRouted p (sent_to p o)
+  to_routed p None = (part_back p.part, inl refl)
+  to_routed p (Some d) = (part_back p.part, inr tt)
+
+  goes_routed : (p : PartPacket) (to : Node) → IsRouted p (routed_to n p to)
+  goes_routed p (nodes.Client c) = to_routed p (device_at n c)
+  goes_routed p other = to_routed p None
+
+  comes_routed : (p : PartPacket) (from : Node) → IsRouted p (routed_from n p from)
+  comes_routed p (nodes.Client c) = by_routed p c (device_at n c)
+  comes_routed p other = goes_routed p p.to
+
+  is_routed : (p : PartPacket) → IsRouted p (routed n p)
+  is_routed p = comes_routed p p.from
+
+  -- a client asks for a session
+  pub none_asked : (c : ℕ) (o : Option Device) (p : Sent) → Among (asks_again c o) p → part_of p.message ≡ None
+  none_asked c None p a = absurd (among_none p a)
+  none_asked c (Some d) p a = go d.linked a
+    where
+      go : (b : Bool) → Among (asks_again c (Some (record d { linked = b }))) p → part_of p.message ≡ None
+      go false b = absurd (among_none p b)
+      go true b = ⊎_elim (λ e. ap (λ (x : Sent). part_of x.message) (sym e)) (λ more. absurd (among_none p more)) (among_cons _ [] p b)
+
+  none_by : (fact : Fact) (p : Sent) → Among (asks_by n fact) p → part_of p.message ≡ None
+  none_by (facts.ClientRecovered c) p a = none_asked c (device_at n c) p a
+  none_by other p a = absurd (among_none p a)
+
+  out_parts : (out : PartOutbox) (p : Sent) → Among (out_of n out).sent p → (part : Part) → part_of p.message ≡ Some part
+      → (packet : PartPacket) × Among out.packets packet × (packet.part ≡ part) × ((p.to ≡ packet.to) ⊎ IsGate p.to)
+  out_parts out p a part is = ⊎_elim
+      (λ b.
+      let r = among_mapped (routed n) out.packets p b in
+      let routed_is : IsRouted r.0 p = subst (IsRouted r.0) r.2 (is_routed r.0) in
+      (r.0, r.1, (let both : Some r.0.part ≡ Some part = sym routed_is.0 ∙ is in cc), routed_is.1))
+      (λ b. let r = flat_member (asks_by n) out.facts p b in no_part (part_of p.message) part (none_by r.0 p r.2) is)
+      (among_either (map (routed n) out.packets) (flat_map (asks_by n) out.facts) p a)
+
+  outs_parts : (outs : List PartOutbox) (p : Sent) → Among (lines.sent_by (map (out_of n) outs)) p → (part : Part) → part_of p.message ≡ Some part
+      → (packet : PartPacket) × Among (packets_by outs) packet × (packet.part ≡ part) × ((p.to ≡ packet.to) ⊎ IsGate p.to)
+  outs_parts outs p a part is =
+      let o = flat_member (λ (out : NetOutbox). out.sent) (map (out_of n) outs) p a in
+      let r = among_mapped (out_of n) outs o.0 o.1 in
+      let x = out_parts r.0 p (subst (λ (out : NetOutbox). Among out.sent p) (sym r.2) o.2) part is in
+      (x.0, member_flat (λ (out : PartOutbox). out.packets) outs r.0 x.0 r.1 x.1, x.2, x.3)
+
+-- ---- a net whose sessions, links or gateways alone are other ones
+
+pub record IsLinkedNet (n later : Net) : Type 0 where
+  pub linked : IsLinked n.wire later.wire
+  pub kept : IsKeptNet later
+  pub sent : later.sent ≡ n.sent
+
+pub gates_linked : (n : Net) (gates : _) → IsKeptNet n → IsLinkedNet n (record n { gates = gates })
+gates_linked n gates k = record { linked = none_linked n.wire k.wire; kept = record { wire = k.wire; devices = k.devices; sent = k.sent }; sent = refl }
+
+pub cut_net : (n : Net) → IsKeptNet n → (c : ℕ) (d : Device) → is_some (client_at n.wire.world c) ≡ true → IsLinkedNet n (cut_by c d n)
+cut_net n k c d there = go (is_client_down (client_at n.wire.world c)) refl
+  where
+    go : (b : Bool) → is_client_down (client_at n.wire.world c) ≡ b → IsLinkedNet n (if b then n else record n { wire = cutting c (is_online d) n.wire })
+    go true is = record { linked = none_linked n.wire k.wire; kept = k; sent = refl }
+    go false is =
+        let l : IsLinked n.wire (cutting c (is_online d) n.wire) = cut_linked n.wire k.wire c (is_online d) there is in
+        record {
+          linked = l;
+          kept = record {
+            wire = l.kept;
+            devices = λ q x at. l.clients q (k.devices q x at);
+            sent = λ p a part is_part. same_sent n.wire (cutting c (is_online d) n.wire) l.packets p.to part (k.sent p a part is_part);
+          };
+          sent = refl;
+        }
+
+pub device_net : (n : Net) → IsKeptNet n → (c : ℕ) (d : Device) → is_some (client_at n.wire.world c) ≡ true → IsLinkedNet n (with_device c d n)
+device_net n k c d there = record { linked = l.linked; kept = l.kept; sent = l.sent }
+  where
+    with : Net
+    with = record n { devices = insert_entry nat_cmp n.devices c d }
+
+    l : IsLinkedNet with (cut_by c d with)
+    l = cut_net with (record {
+      wire = k.wire;
+      devices = all_after (λ (q : ℕ) (x : Device). is_some (client_at n.wire.world q) ≡ true) n.devices c d there k.devices;
+      sent = k.sent;
+    }) c d there
+
+-- ---- what an event carries of the wire
+
+-- an event of the wire
+pub record IsShared (n : Net) (event : Event) (x : NetStep) (v : Wire) : Type 0 where
+  pub other : Event
+  pub lucks : Lucks
+  pub built : IsBuilt other
+  pub carried : IsEventCarried (to_of n.sent) (wires_to v.packets) event other
+  pub lines : AreLinesCarried (lines_of n x) (wires.lines_of v (wire_step v other lucks))
+  pub packets : wires_to (wire_step v other lucks).wire.packets ≡ wires_to v.packets ++ sent_in (wires.lines_of v (wire_step v other lucks))
+  pub behind : IsLinked (wire_step v other lucks).wire x.net.wire
+
+-- or none
+pub record IsAlone (n : Net) (event : Event) (x : NetStep) (v : Wire) : Type 0 where
+  pub lone : IsLone event (lines_of n x)
+  pub behind : IsLinked v x.net.wire
+
+-- between links
+pub record Carries (n : Net) (event : Event) (x : NetStep) : Type 0 where
+  pub v : Wire
+  pub before : IsLinked n.wire v
+  pub middle : IsAlone n event x v ⊎ IsShared n event x v
+  pub sent : to_of x.net.sent ≡ to_of n.sent ++ sent_in (lines_of n x)
+  pub kept : IsKeptNet x.net
+
+-- with more links behind it
+pub then_carries : (n : Net) (event : Event) (x : NetStep) → Carries n event x → (net : Net) → IsLinkedNet x.net net → Carries n event (record x { net = net })
+then_carries n event x c net l = record {
+  v = c.v;
+  before = c.before;
+  middle = ⊎_elim
+      (λ a. inl (record { lone = a.lone; behind = then_linked c.v x.net.wire net.wire a.behind l.linked }))
+      (λ a. inr (record {
+        other = a.other;
+        lucks = a.lucks;
+        built = a.built;
+        carried = a.carried;
+        lines = a.lines;
+        packets = a.packets;
+        behind = then_linked (wire_step c.v a.other a.lucks).wire x.net.wire net.wire a.behind l.linked;
+      })) c.middle;
+  sent = ap to_of l.sent ∙ c.sent;
+  kept = l.kept;
+}
+
+module _ (n : Net) (k : IsKeptNet n) where
+  -- ---- an event of the wire
+
+  pub shares : (v : Wire) → IsLinked n.wire v → (event other : Event) (lucks : Lucks) → IsBuilt other → IsEventCarried (to_of n.sent) (wires_to v.packets) event other
+      → IsKeptWire (wire_step v other lucks).wire → ClientsStay v.world (wire_step v other lucks).wire.world → Carries n event (carried_on n (wire_step v other lucks))
+  shares v before event other lucks built carried kept stay = record {
+    v = v;
+    before = before;
+    middle = inr (record {
+      other = other;
+      lucks = lucks;
+      built = built;
+      carried = carried;
+      lines = lines_carried n n v s;
+      packets = ap wires_to packets ∙ (map-append (λ (p : PartPacket). p.to) v.packets (packets_by s.outs) ∙ ap (λ (ns : List Node). wires_to v.packets ++ ns) (sym (wire_sends v s plain)));
+      behind = none_linked s.wire kept;
+    });
+    sent = map-append (λ (p : Sent). p.to) n.sent (lines.sent_by (carried_on n s).outs) ∙ ap (λ (ns : List Node). to_of n.sent ++ ns) (sym (carried_sends n n s plain));
+    kept = record {
+      wire = kept;
+      devices = λ c d at. stay c (before.clients c (k.devices c d at));
+      sent = λ p a part is. ⊎_elim
+          (λ old. more_sent v s.wire (packets_by s.outs) packets p.to part (same_sent n.wire v before.packets p.to part (k.sent p old part is)))
+          (λ new. let r = outs_parts n s.outs p new part is in record {
+            packet = r.0;
+            stands = subst (λ (ps : List PartPacket). Among ps r.0) (sym packets) (among_right v.packets (packets_by s.outs) r.0 r.1);
+            part_is = r.2;
+            to_is = r.3;
+          })
+          (among_either n.sent (lines.sent_by (carried_on n s).outs) p a);
+    };
+  }
+    where
+      s : WireStep
+      s = wire_step v other lucks
+
+      packets : (wire_step v other lucks).wire.packets ≡ v.packets ++ packets_by (wire_step v other lucks).outs
+      packets = (shaped v before.kept.remembered other lucks).packets
+
+      plain : lines.IsPlainWireStep (wire_step v other lucks)
+      plain = plain_step v before.kept other lucks
+
+  -- ---- none
+
+  pub stays_alone : (event : Event) (later : Net) (answer : Answer) → IsLone event (AnswerLine answer ∷ []) → IsLinkedNet n later → Carries n event (still later answer)
+  stays_alone event later answer lone l = record {
+    v = n.wire;
+    before = none_linked n.wire k.wire;
+    middle = inl (record { lone = lone; behind = l.linked });
+    sent = ap to_of l.sent ∙ sym (append-nil (to_of n.sent));
+    kept = l.kept;
+  }
+
+  pub itself : IsLinkedNet n n
+  itself = record { linked = none_linked n.wire k.wire; kept = k; sent = refl }
+
+  pub answers_alone : (event : Event) (answer : Answer) → IsLone event (AnswerLine answer ∷ []) → Carries n event (still n answer)
+  answers_alone event answer lone = stays_alone event n answer lone itself
+
+  pub unless_node_down : (event : Event) (node : Node) (x : NetStep) → IsLone event (AnswerLine (facts.Refuses (facts.NodeDown node)) ∷ []) → (is_node_down n node ≡ false → Carries n event x)
+      → Carries n event (unless_down n node x)
+  unless_node_down event node x lone up = go (is_node_down n node) refl
+    where
+      go : (b : Bool) → is_node_down n node ≡ b → Carries n event (if b then refused n (facts.NodeDown node) else x)
+      go true is = answers_alone event (facts.Refuses (facts.NodeDown node)) lone
+      go false is = up is
+
+  -- and messages behind it
+  pub sends_alone : (event : Event) (later : Net) (sent : List Sent) → ((ls : List Line) → AreLone ls → IsLone event ls) → IsLinkedNet n later → AreParts later.wire sent
+      → Carries n event (sending later sent)
+  sends_alone event later sent lone l parts = record {
+    v = n.wire;
+    before = none_linked n.wire k.wire;
+    middle = inl (record {
+      lone = lone (lines_of n (sending later sent)) (record {
+        answer = facts.Done;
+        is = tt;
+        told = sent_facts (length n.sent) sent;
+        sent = all_sent (length n.sent) sent;
+        lines_are = sending_lines n later sent;
+      });
+      behind = l.linked;
+    });
+    sent = map-append (λ (p : Sent). p.to) later.sent sent ∙ (ap (λ (ps : List Sent). to_of ps ++ to_of sent) l.sent ∙ ap (λ (ns : List Node). to_of n.sent ++ ns) (sym (sending_sends n later sent)));
+    kept = record {
+      wire = l.kept.wire;
+      devices = l.kept.devices;
+      sent = λ p a part is. ⊎_elim (λ old. l.kept.sent p old part is) (λ new. parts p new part is) (among_either later.sent sent p a);
+    };
+  }

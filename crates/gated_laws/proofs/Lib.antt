@@ -1,0 +1,14 @@
+pub mod EachMove
+pub mod Replies
+pub mod Addressed
+pub mod Remembered
+pub mod HandedOn
+pub mod NetLines
+pub mod KeptWires
+pub mod KeptNets
+pub mod Carrying
+pub mod NetRuns
+pub mod CarriedLines
+pub mod CarriedTurns
+pub mod CarriedLaws
+pub mod NetLaws

@@ -1,0 +1,235 @@
+-- What the lines of a step with gateways tell beside those of the wire's step that it carries, and what both send.
+use Rattle.std.proofs.Common.{◌≡◌, ℕ, ◌+◌, true, false, List, [], ◌∷◌, ◌++◌, length, Option, Some, None, refl, sym, ◌∙◌, ap, append-nil}
+use Rattle.std.specs.Prelude.{map, option_to_list}
+use Rattle.std.specs.List.{AllByRecursion, flat_map}
+use Rattle.std.proofs.lemmas.List.{map-append}
+use Rattle.stab_base.specs.declared.node.Node.{Node}
+use Rattle.table_model.specs.MessageNames.{name_of}
+use Rattle.step_tables.specs.Facts.{Fact, Answer, Line, AnswerLine, FactLine}
+use Rattle.step_tables.specs.Facts as facts
+use Rattle.world_tables.specs.Quiet.{sent_in}
+use Rattle.name_laws.proofs.Plain.{IsPlainFact, ArePlainFacts}
+use Rattle.wire_tables.specs.Wire.{PartPacket, PartOutbox, Wire, WireStep, part_name}
+use Rattle.wire_tables.specs.Wire as wires
+use Rattle.gated_tables.specs.Net.{Sent, Net, NetOutbox, sent_lines, lines_from, lines_of, sending, out_of, carried_on}
+use Rattle.gated_laws.specs.Carried.{is_sent, without_sent, AreLinesCarried}
+
+-- ---- where packets go
+
+abbrev pub to_of : List Sent → List Node
+to_of sent = map (λ (p : Sent). p.to) sent
+
+abbrev pub wires_to : List PartPacket → List Node
+wires_to packets = map (λ (p : PartPacket). p.to) packets
+
+-- the messages and the packets that a step sends
+abbrev pub sent_by : List NetOutbox → List Sent
+sent_by outs = flat_map (λ (out : NetOutbox). out.sent) outs
+
+abbrev pub packets_by : List PartOutbox → List PartPacket
+packets_by outs = flat_map (λ (out : PartOutbox). out.packets) outs
+
+-- ---- facts
+
+mapped : (xs ys : List Fact) → map FactLine (xs ++ ys) ≡ map FactLine xs ++ map FactLine ys
+mapped xs ys = map-append FactLine xs ys
+
+without_join : (xs ys : List Fact) → without_sent (xs ++ ys) ≡ without_sent xs ++ without_sent ys
+without_join [] ys = refl
+without_join (facts.Sent packet from to name ∷ xs) ys = without_join xs ys
+without_join (other ∷ xs) ys = ap (λ (l : List Fact). other ∷ l) (without_join xs ys)
+
+abbrev AllSent : List Fact → Type 0
+AllSent some = AllByRecursion (λ (fact : Fact). is_sent fact ≡ true) some
+
+without_all : (some rest : List Fact) → AllSent some → without_sent (some ++ rest) ≡ without_sent rest
+without_all [] rest all = refl
+without_all (facts.Sent packet from to name ∷ some) rest all = without_all some rest all.1
+without_all (other ∷ some) rest all = absurd (let e : false ≡ true = all.0 in cc)
+
+-- ---- what messages are told as
+
+abbrev pub sent_facts : ℕ → List Sent → List Fact
+sent_facts number [] = []
+sent_facts number (one ∷ sent) = facts.Sent number one.from one.to (name_of one.message) ∷ sent_facts (number + 1) sent
+
+pub sent_told : (number : ℕ) (sent : List Sent) → sent_lines number sent ≡ map FactLine (sent_facts number sent)
+sent_told number [] = refl
+sent_told number (one ∷ sent) = ap (λ (l : List Line). FactLine (facts.Sent number one.from one.to (name_of one.message)) ∷ l) (sent_told (number + 1) sent)
+
+pub all_sent : (number : ℕ) (sent : List Sent) → AllSent (sent_facts number sent)
+all_sent number [] = tt
+all_sent number (one ∷ sent) = (refl, all_sent (number + 1) sent)
+
+told : ℕ → List NetOutbox → List Fact
+told number [] = []
+told number (out ∷ outs) = out.facts ++ (sent_facts number out.sent ++ told (number + length out.sent) outs)
+
+lines_told : (number : ℕ) (outs : List NetOutbox) → lines_from number outs ≡ map FactLine (told number outs)
+unfolding told
+lines_told number [] = refl
+lines_told number (out ∷ outs) =
+    let later : ℕ = number + length out.sent in
+    ap (λ (l : List Line). map FactLine out.facts ++ (l ++ lines_from later outs)) (sent_told number out.sent)
+    ∙ (ap (λ (l : List Line). map FactLine out.facts ++ (map FactLine (sent_facts number out.sent) ++ l)) (lines_told later outs)
+    ∙ (ap (λ (l : List Line). map FactLine out.facts ++ l) (sym (mapped (sent_facts number out.sent) (told later outs))) ∙ sym (mapped out.facts (sent_facts number out.sent ++ told later outs))))
+
+told_without : (number : ℕ) (outs : List NetOutbox) → without_sent (told number outs) ≡ without_sent (flat_map (λ (out : NetOutbox). out.facts) outs)
+unfolding told
+told_without number [] = refl
+told_without number (out ∷ outs) =
+    let later : ℕ = number + length out.sent in
+    let rest : List Fact = flat_map (λ (x : NetOutbox). x.facts) outs in
+    without_join out.facts (sent_facts number out.sent ++ told later outs)
+    ∙ (ap (λ (l : List Fact). without_sent out.facts ++ l) (without_all (sent_facts number out.sent) (told later outs) (all_sent number out.sent) ∙ told_without later outs)
+    ∙ sym (without_join out.facts rest))
+
+-- ---- and packets
+
+packet_facts : ℕ → List PartPacket → List Fact
+packet_facts number [] = []
+packet_facts number (p ∷ packets) = facts.Sent number p.from p.to (part_name p.part) ∷ packet_facts (number + 1) packets
+
+packets_told : (number : ℕ) (packets : List PartPacket) → wires.sent_lines number packets ≡ map FactLine (packet_facts number packets)
+unfolding packet_facts
+packets_told number [] = refl
+packets_told number (p ∷ packets) = ap (λ (l : List Line). FactLine (facts.Sent number p.from p.to (part_name p.part)) ∷ l) (packets_told (number + 1) packets)
+
+all_packets : (number : ℕ) (packets : List PartPacket) → AllSent (packet_facts number packets)
+unfolding packet_facts
+all_packets number [] = tt
+all_packets number (p ∷ packets) = (refl, all_packets (number + 1) packets)
+
+wire_told : ℕ → List PartOutbox → List Fact
+wire_told number [] = []
+wire_told number (out ∷ outs) = out.facts ++ (packet_facts number out.packets ++ wire_told (number + length out.packets) outs)
+
+wire_lines_told : (number : ℕ) (outs : List PartOutbox) → wires.lines_from number outs ≡ map FactLine (wire_told number outs)
+unfolding wire_told
+wire_lines_told number [] = refl
+wire_lines_told number (out ∷ outs) =
+    let later : ℕ = number + length out.packets in
+    ap (λ (l : List Line). map FactLine out.facts ++ (l ++ wires.lines_from later outs)) (packets_told number out.packets)
+    ∙ (ap (λ (l : List Line). map FactLine out.facts ++ (map FactLine (packet_facts number out.packets) ++ l)) (wire_lines_told later outs)
+    ∙ (ap (λ (l : List Line). map FactLine out.facts ++ l) (sym (mapped (packet_facts number out.packets) (wire_told later outs)))
+    ∙ sym (mapped out.facts (packet_facts number out.packets ++ wire_told later outs))))
+
+wire_without : (number : ℕ) (outs : List PartOutbox) → without_sent (wire_told number outs) ≡ without_sent (flat_map (λ (out : PartOutbox). out.facts) outs)
+unfolding wire_told
+wire_without number [] = refl
+wire_without number (out ∷ outs) =
+    let later : ℕ = number + length out.packets in
+    let rest : List Fact = flat_map (λ (x : PartOutbox). x.facts) outs in
+    without_join out.facts (packet_facts number out.packets ++ wire_told later outs)
+    ∙ (ap (λ (l : List Fact). without_sent out.facts ++ l) (without_all (packet_facts number out.packets) (wire_told later outs) (all_packets number out.packets) ∙ wire_without later outs)
+    ∙ sym (without_join out.facts rest))
+
+-- ---- a step that is carried on
+
+same_facts : (n : Net) (outs : List PartOutbox) → flat_map (λ (out : NetOutbox). out.facts) (map (out_of n) outs) ≡ flat_map (λ (out : PartOutbox). out.facts) outs
+same_facts n [] = refl
+same_facts n (out ∷ outs) = ap (λ (l : List Fact). out.facts ++ l) (same_facts n outs)
+
+left_none : {X : Type 0} (xs ys : List X) → xs ++ ys ≡ [] → (xs ≡ []) × (ys ≡ [])
+left_none [] ys e = (refl, e)
+left_none (x ∷ xs) ys e = absurd cc
+
+none_of : (number : ℕ) (packets : List PartPacket) → packet_facts number packets ≡ [] → packets ≡ []
+unfolding packet_facts
+none_of number [] e = refl
+none_of number (p ∷ packets) e = absurd cc
+
+none_told : (n : Net) (number count : ℕ) (outs : List PartOutbox) → wire_told count outs ≡ [] → told number (map (out_of n) outs) ≡ []
+unfolding told wire_told
+none_told n number count [] e = refl
+none_told n number count (out ∷ outs) e =
+    let a = left_none out.facts (packet_facts count out.packets ++ wire_told (count + length out.packets) outs) e in
+    let b = left_none (packet_facts count out.packets) (wire_told (count + length out.packets) outs) a.1 in
+    ap (λ (o : PartOutbox). o.facts ++ (sent_facts number (out_of n o).sent ++ told (number + length (out_of n o).sent) (map (out_of n) outs)))
+    (ap (λ (some : List Fact). record out { facts = some }) a.0 ∙ ap (λ (ps : List PartPacket). record { facts = []; packets = ps }) (none_of count out.packets b.0))
+    ∙ none_told n (number + 0) (count + length out.packets) outs b.1
+
+ahead : (a : List Line) (b c : List Line) → a ++ (b ++ c) ≡ (a ++ b) ++ c
+ahead [] b c = refl
+ahead (x ∷ a) b c = ap (λ (l : List Line). x ∷ l) (ahead a b c)
+
+pub lines_carried : (n m : Net) (v : Wire) (s : WireStep) → AreLinesCarried (lines_of n (carried_on m s)) (wires.lines_of v s)
+lines_carried n m v s = record {
+  head = head;
+  told = told (length n.sent) outs;
+  others = wire_told (length v.packets) s.outs;
+  lines_are = ap (λ (l : List Line). map AnswerLine (option_to_list s.answer) ++ (s.counted ++ l)) (lines_told (length n.sent) outs)
+      ∙ ahead (map AnswerLine (option_to_list s.answer)) s.counted (map FactLine (told (length n.sent) outs));
+  whole_are = ap (λ (l : List Line). map AnswerLine (option_to_list s.answer) ++ (s.counted ++ l)) (wire_lines_told (length v.packets) s.outs)
+      ∙ ahead (map AnswerLine (option_to_list s.answer)) s.counted (map FactLine (wire_told (length v.packets) s.outs));
+  none = none_told m (length n.sent) (length v.packets) s.outs;
+  same = told_without (length n.sent) outs ∙ (ap without_sent (same_facts m s.outs) ∙ sym (wire_without (length v.packets) s.outs));
+}
+  where
+    head : List Line
+    head = map AnswerLine (option_to_list s.answer) ++ s.counted
+
+    outs : List NetOutbox
+    outs = map (out_of m) s.outs
+
+-- ---- what is sent
+
+-- no fact of a step tells that a packet was sent, and neither do the lines that are counted
+pub record IsPlainWireStep (s : WireStep) : Type 0 where
+  pub facts : AllByRecursion (λ (out : PartOutbox). ArePlainFacts out.facts) s.outs
+  pub counted : (rest : List Line) → sent_in (s.counted ++ rest) ≡ sent_in rest
+
+facts_send : (some : List Fact) (rest : List Line) → ArePlainFacts some → sent_in (map FactLine some ++ rest) ≡ sent_in rest
+facts_send [] rest p = refl
+facts_send (fact ∷ more) rest p = one fact p.0 (facts_send more rest p.1)
+  where
+    one : (f : Fact) → IsPlainFact f → sent_in (map FactLine more ++ rest) ≡ sent_in rest → sent_in (FactLine f ∷ (map FactLine more ++ rest)) ≡ sent_in rest
+    one (facts.Sent n a b m) q later = absurd q
+    one other q later = later
+
+messages_send : (number : ℕ) (sent : List Sent) (rest : List Line) → sent_in (sent_lines number sent ++ rest) ≡ to_of sent ++ sent_in rest
+messages_send number [] rest = refl
+messages_send number (p ∷ sent) rest = ap (λ (ns : List Node). p.to ∷ ns) (messages_send (number + 1) sent rest)
+
+packets_send : (number : ℕ) (packets : List PartPacket) (rest : List Line) → sent_in (wires.sent_lines number packets ++ rest) ≡ wires_to packets ++ sent_in rest
+packets_send number [] rest = refl
+packets_send number (p ∷ packets) rest = ap (λ (ns : List Node). p.to ∷ ns) (packets_send (number + 1) packets rest)
+
+outs_send : (number : ℕ) (m : Net) (outs : List PartOutbox) → AllByRecursion (λ (out : PartOutbox). ArePlainFacts out.facts) outs
+    → sent_in (lines_from number (map (out_of m) outs)) ≡ to_of (sent_by (map (out_of m) outs))
+outs_send number m [] p = refl
+outs_send number m (out ∷ outs) p =
+    let sent : List Sent = (out_of m out).sent in
+    let later : ℕ = number + length sent in
+    facts_send out.facts (sent_lines number sent ++ lines_from later (map (out_of m) outs)) p.0
+    ∙ (messages_send number sent (lines_from later (map (out_of m) outs))
+    ∙ (ap (λ (ns : List Node). to_of sent ++ ns) (outs_send later m outs p.1) ∙ sym (map-append (λ (x : Sent). x.to) sent (sent_by (map (out_of m) outs)))))
+
+wire_outs_send : (number : ℕ) (outs : List PartOutbox) → AllByRecursion (λ (out : PartOutbox). ArePlainFacts out.facts) outs → sent_in (wires.lines_from number outs) ≡ wires_to (packets_by outs)
+wire_outs_send number [] p = refl
+wire_outs_send number (out ∷ outs) p =
+    let later : ℕ = number + length out.packets in
+    facts_send out.facts (wires.sent_lines number out.packets ++ wires.lines_from later outs) p.0
+    ∙ (packets_send number out.packets (wires.lines_from later outs)
+    ∙ (ap (λ (ns : List Node). wires_to out.packets ++ ns) (wire_outs_send later outs p.1) ∙ sym (map-append (λ (x : PartPacket). x.to) out.packets (packets_by outs))))
+
+answer_sends : (o : Option Answer) (rest : List Line) → sent_in (map AnswerLine (option_to_list o) ++ rest) ≡ sent_in rest
+answer_sends None rest = refl
+answer_sends (Some answer) rest = refl
+
+pub carried_sends : (n m : Net) (s : WireStep) → IsPlainWireStep s → sent_in (lines_of n (carried_on m s)) ≡ to_of (sent_by (carried_on m s).outs)
+carried_sends n m s p =
+    let lines : List Line = lines_from (length n.sent) (map (out_of m) s.outs) in
+    answer_sends s.answer (s.counted ++ lines) ∙ (p.counted lines ∙ outs_send (length n.sent) m s.outs p.facts)
+
+pub wire_sends : (v : Wire) (s : WireStep) → IsPlainWireStep s → sent_in (wires.lines_of v s) ≡ wires_to (packets_by s.outs)
+wire_sends v s p =
+    let lines : List Line = wires.lines_from (length v.packets) s.outs in
+    answer_sends s.answer (s.counted ++ lines) ∙ (p.counted lines ∙ wire_outs_send (length v.packets) s.outs p.facts)
+
+-- an answer, and what is sent behind it
+pub sending_lines : (n m : Net) (sent : List Sent) → lines_of n (sending m sent) ≡ AnswerLine facts.Done ∷ map FactLine (sent_facts (length n.sent) sent)
+sending_lines n m sent = ap (λ (l : List Line). AnswerLine facts.Done ∷ l) (append-nil (sent_lines (length n.sent) sent) ∙ sent_told (length n.sent) sent)
+
+pub sending_sends : (n m : Net) (sent : List Sent) → sent_in (lines_of n (sending m sent)) ≡ to_of sent
+sending_sends n m sent = messages_send (length n.sent) sent [] ∙ append-nil (to_of sent)

@@ -1,0 +1,259 @@
+-- A run with gateways is a run of wires.
+use Rattle.std.proofs.Common.{◌≡◌, ◌⊎◌, inl, inr, ⊎_elim, ℕ, Bool, true, false, List, [], ◌∷◌, ◌++◌, Option, Some, None, refl, sym, ◌∙◌, ap, subst, append-nil, append_assoc, true≢false}
+use Rattle.std.specs.Prelude.{is_some, MatchBool}
+use Rattle.std.specs.List.{AllByRecursion}
+use Rattle.stab_base.specs.declared.node.Node.{Node}
+use Rattle.table_model.specs.declared.event.Event.{Event}
+use Rattle.table_model.specs.declared.event.Event.TheVariants as events
+use Rattle.step_tables.specs.Messages.{Luck}
+use Rattle.step_tables.specs.ClientMoves.{Client}
+use Rattle.step_tables.proofs.Lists.{among_none}
+use Rattle.world_tables.specs.Quiet.{sent_in}
+use Rattle.world_tables.specs.Sound.{is_declaration}
+use Rattle.world_tables.specs.Turns.{Happening, Turn}
+use Rattle.world_tables.specs.World.{Lucks, client_at, first_luck, open_all, new_client, first_agenda, joined}
+use Rattle.world_laws.proofs.Looks.{look_cases}
+use Rattle.fair_laws.specs.Reached.{IsBuilt}
+use Rattle.wire_tables.specs.Wire.{Wire, WireStep, wire_step}
+use Rattle.wire_tables.specs.Wire as wires
+use Rattle.wire_tables.specs.Runs.{wire_from, wire_turns}
+use Rattle.wire_tables.specs.Runs as wire_runs
+use Rattle.wire_laws.specs.Runs as wire_laws
+use Rattle.gate_tables.specs.Gate.{Gateway}
+use Rattle.gated_tables.specs.Devices.{new_device}
+use Rattle.gated_tables.specs.Net.{Net, NetEvent, NetStep, Of, Gate, start, gate_at, device_at, lines_of, with_device, carried_on, joined_by, gate_declared, net_step_of, net_step}
+use Rattle.gated_tables.specs.Net as net
+use Rattle.gated_tables.specs.Runs.{NetHappening, net_from, turns_from}
+use Rattle.gated_laws.specs.Carried.{IsLone, IsEventCarried, IsTurnCarried, AreLinkTurns, AreCarriedFrom}
+use Rattle.gated_laws.specs.Runs.{IsNetBuilt, AreBuilt, declares, AreDeclaredFirst, IsRunOfWires}
+use Rattle.gated_laws.proofs.NetLines.{to_of, wires_to}
+use Rattle.gated_laws.proofs.KeptWires.{turns_join, from_join, built_join, IsDeclaredWire, declares_wire, IsLinked, none_linked, link_turns_join, start_kept}
+use Rattle.gated_laws.proofs.KeptNets.{IsKeptNet, IsLinkedNet, itself, device_net, gates_linked, IsShared, IsAlone, Carries, then_carries, shares}
+use Rattle.gated_laws.proofs.Carrying.{carries}
+
+-- ---- more links
+
+more_links : (sent whole : List Node) (turns links others : List Turn) → AreLinkTurns links → AreCarriedFrom sent whole turns others → AreCarriedFrom sent whole turns (links ++ others)
+more_links sent whole [] links others l c = link_turns_join links others l c
+more_links sent whole (turn ∷ turns) links others l c =
+    (links ++ c.0, c.1, link_turns_join links c.0 l c.2, ap (λ (ts : List Turn). links ++ ts) c.3 ∙ sym (append_assoc links c.0 c.1), c.4)
+
+-- ---- behind one event, from a wire of the run
+
+abbrev turn_for : Net → Event → NetStep → Turn
+turn_for n event x = record { event = event; lines = lines_of n x }
+
+-- a turn alone, or beside one of the wire
+abbrev IsNext : List Node → List Node → Turn → List Turn → List Turn → Type 0
+IsNext sent whole turn turns rest =
+    (IsLone turn.event turn.lines × AreCarriedFrom (sent ++ sent_in turn.lines) whole turns rest)
+    ⊎ ((other : Turn) × (more : List Turn) × (rest ≡ other ∷ more) × IsTurnCarried sent whole turn other
+    × AreCarriedFrom (sent ++ sent_in turn.lines) (whole ++ sent_in other.lines) turns more)
+
+record IsRunFrom (n : Net) (run : List NetHappening) : Type 0 where
+  pub whole : List Happening
+  pub built : wire_laws.AreBuilt whole
+  pub wire : (net_from n run).wire ≡ wire_from n.wire whole
+  pub carried : AreCarriedFrom (to_of n.sent) (wires_to n.wire.packets) (turns_from n run) (wire_runs.turns_from n.wire whole)
+
+module _ (n : Net) (event : Event) (x : NetStep) (more : List NetHappening) (c : Carries n event x) (next : IsRunFrom x.net more) where
+  record IsNextFrom (v : Wire) : Type 0 where
+    whole : List Happening
+    built : wire_laws.AreBuilt whole
+    wire : (net_from x.net more).wire ≡ wire_from v whole
+    is : IsNext (to_of n.sent) (wires_to v.packets) (turn_for n event x) (turns_from x.net more) (wire_runs.turns_from v whole)
+
+  -- from a wire from which links lead to the one behind the event
+  module _ (u : Wire) (l : IsLinked u x.net.wire) where
+    abbrev linked : List Happening
+    linked = l.run ++ next.whole
+
+    linked_wire : (net_from x.net more).wire ≡ wire_from u linked
+    linked_wire = next.wire ∙ (ap (λ (w : Wire). wire_from w next.whole) (sym l.is) ∙ sym (from_join u l.run next.whole))
+
+    linked_carried : AreCarriedFrom (to_of n.sent ++ sent_in (lines_of n x)) (wires_to u.packets) (turns_from x.net more) (wire_runs.turns_from u linked)
+    linked_carried =
+        subst (λ (ts : List Turn). AreCarriedFrom (to_of n.sent ++ sent_in (lines_of n x)) (wires_to u.packets) (turns_from x.net more) ts)
+        (ap (λ (w : Wire). wire_runs.turns_from u l.run ++ wire_runs.turns_from w next.whole) (sym l.is) ∙ sym (turns_join u l.run next.whole))
+        (more_links (to_of n.sent ++ sent_in (lines_of n x)) (wires_to u.packets) (turns_from x.net more) (wire_runs.turns_from u l.run) (wire_runs.turns_from x.net.wire next.whole) l.turns
+        (subst (λ (sent : List Node). AreCarriedFrom sent (wires_to u.packets) (turns_from x.net more) (wire_runs.turns_from x.net.wire next.whole)) c.sent
+        (subst (λ (whole : List Node). AreCarriedFrom (to_of x.net.sent) whole (turns_from x.net more) (wire_runs.turns_from x.net.wire next.whole)) (ap wires_to l.packets) next.carried)))
+
+  next_from : IsNextFrom c.v
+  next_from = ⊎_elim alone shared c.middle
+    where
+      alone : IsAlone n event x c.v → IsNextFrom c.v
+      alone a = record {
+        whole = linked c.v a.behind;
+        built = built_join a.behind.run next.whole a.behind.built next.built;
+        wire = linked_wire c.v a.behind;
+        is = inl (a.lone, linked_carried c.v a.behind);
+      }
+
+      shared : IsShared n event x c.v → IsNextFrom c.v
+      shared a =
+          let s : WireStep = wire_step c.v a.other a.lucks in
+          record {
+            whole = record { event = a.other; lucks = a.lucks } ∷ linked s.wire a.behind;
+            built = (a.built, built_join a.behind.run next.whole a.behind.built next.built);
+            wire = linked_wire s.wire a.behind;
+            is = inr (
+              record { event = a.other; lines = wires.lines_of c.v s },
+              wire_runs.turns_from s.wire (linked s.wire a.behind),
+              refl,
+              record { event = a.carried; lines = a.lines },
+              subst (λ (whole : List Node). AreCarriedFrom (to_of n.sent ++ sent_in (lines_of n x)) whole (turns_from x.net more) (wire_runs.turns_from s.wire (linked s.wire a.behind))) a.packets
+                  (linked_carried s.wire a.behind),
+            );
+          }
+
+  record IsBehind : Type 0 where
+    pub whole : List Happening
+    pub built : wire_laws.AreBuilt whole
+    pub wire : (net_from x.net more).wire ≡ wire_from n.wire whole
+    pub carried : AreCarriedFrom (to_of n.sent) (wires_to n.wire.packets) (turn_for n event x ∷ turns_from x.net more) (wire_runs.turns_from n.wire whole)
+
+  behind : IsBehind
+  behind = go next_from
+    where
+      b : IsLinked n.wire c.v
+      b = c.before
+
+      go : IsNextFrom c.v → IsBehind
+      go f = record {
+        whole = b.run ++ f.whole;
+        built = built_join b.run f.whole b.built f.built;
+        wire = f.wire ∙ (ap (λ (w : Wire). wire_from w f.whole) (sym b.is) ∙ sym (from_join n.wire b.run f.whole));
+        carried = (
+          wire_runs.turns_from n.wire b.run,
+          wire_runs.turns_from c.v f.whole,
+          b.turns,
+          turns_join n.wire b.run f.whole ∙ ap (λ (w : Wire). wire_runs.turns_from n.wire b.run ++ wire_runs.turns_from w f.whole) b.is,
+          subst (λ (whole : List Node). IsNext (to_of n.sent) whole (turn_for n event x) (turns_from x.net more) (wire_runs.turns_from c.v f.whole)) (ap wires_to b.packets) f.is,
+        );
+      }
+
+-- ---- where nothing is declared any more
+
+run_on : (run : List NetHappening) → AllByRecursion (λ (h : NetHappening). declares h.event ≡ false) run → AreBuilt run → (n : Net) → IsKeptNet n → IsRunFrom n run
+run_on [] plain built n k = record { whole = []; built = tt; wire = refl; carried = tt }
+run_on (h ∷ more) plain built n k = go h.event plain.0 built.0 (run_on more plain.1 built.1)
+  where
+    go : (e : NetEvent) → declares e ≡ false → IsNetBuilt e → ((m : Net) → IsKeptNet m → IsRunFrom m more) → IsRunFrom n (record { event = e; lucks = h.lucks } ∷ more)
+    go (Gate number) d b rest = absurd (true≢false d)
+    go (Of event) d b rest =
+        let c : Carries n event (net_step_of n event h.lucks) = carries n k event d b h.lucks in
+        let r = behind n event (net_step_of n event h.lucks) more c (rest (net_step_of n event h.lucks).net c.kept) in
+        record { whole = r.whole; built = r.built; wire = r.wire; carried = r.carried }
+
+-- ---- where nothing was sent
+
+record IsSilent (n : Net) : Type 0 where
+  pub kept : IsKeptNet n
+  pub sent : n.sent ≡ []
+  pub packets : n.wire.packets ≡ []
+  pub whole : n.wire.world.packets ≡ []
+
+record DeclaresNet (n : Net) (event : Event) (x : NetStep) : Type 0 where
+  pub carries : Carries n event x
+  pub silent : IsSilent x.net
+
+module _ (n : Net) (k : IsSilent n) where
+  -- an event of the wire, which sends nothing
+  declares_on : (event other : Event) (lucks : Lucks) → is_declaration other ≡ true → IsBuilt other → IsEventCarried (to_of n.sent) (wires_to n.wire.packets) event other
+      → (wire_step n.wire other lucks).outs ≡ [] → DeclaresNet n event (carried_on n (wire_step n.wire other lucks))
+  declares_on event other lucks is built carried none =
+      let d : IsDeclaredWire n.wire (wire_step n.wire other lucks).wire = declares_wire n.wire k.kept.wire k.packets k.whole other is built lucks in
+      let c : Carries n event (carried_on n (wire_step n.wire other lucks)) = shares n k.kept n.wire (none_linked n.wire k.kept.wire) event other lucks built carried d.kept d.clients in
+      record {
+        carries = c;
+        silent = record {
+          kept = c.kept;
+          sent = ap (λ (outs : List wires.PartOutbox). (carried_on n (record { wire = n.wire; answer = None; counted = []; outs = outs })).net.sent) none ∙ (append-nil n.sent ∙ k.sent);
+          packets = d.packets;
+          whole = d.whole;
+        };
+      }
+
+  linked_too : (event : Event) (x : NetStep) → DeclaresNet n event x → (later : Net) → IsLinkedNet x.net later → DeclaresNet n event (record x { net = later })
+  linked_too event x d later l = record {
+    carries = then_carries n event x d.carries later l;
+    silent = record { kept = l.kept; sent = l.sent ∙ d.silent.sent; packets = l.linked.packets ∙ d.silent.packets; whole = l.linked.whole ∙ d.silent.whole };
+  }
+
+  joins_there : (c : ℕ) (tables : List ℕ) (luck : Luck) → client_at n.wire.world c ≡ None → is_some (client_at (joined n.wire.world c tables luck (client_at n.wire.world c)) c) ≡ true
+  joins_there c tables luck none =
+      ap (λ (o : Option Client). is_some (client_at (joined n.wire.world c tables luck o) c)) none
+      ∙ ⊎_elim (λ e. ap (λ (o : Option Client). is_some o) e.1) (λ e. absurd (e.0 refl)) (look_cases n.wire.world.clients c (new_client (open_all n.wire.world [] tables) (first_agenda luck)) c)
+
+  declares_client : (c : ℕ) (number : Option ℕ) (tables : List ℕ) (lucks : Lucks) → IsBuilt (events.Client c number tables) → (o : Option Client) → client_at n.wire.world c ≡ o
+      → DeclaresNet n (events.Client c number tables) (net.joined n c number tables lucks o)
+  declares_client c number tables lucks built (Some node) at = declares_on (events.Client c number tables) (events.Client c None tables) lucks refl built refl refl
+  declares_client c number tables lucks built None at = go number
+    where
+      event : Event
+      event = events.Client c number tables
+
+      s : NetStep
+      s = carried_on n (wire_step n.wire (events.Client c None tables) lucks)
+
+      first : DeclaresNet n event s
+      first = declares_on (events.Client c number tables) (events.Client c None tables) lucks refl built refl refl
+
+      go : (o : Option ℕ) → DeclaresNet n event (record s { net = joined_by c o s.net })
+      go None = linked_too event s first s.net (itself s.net first.silent.kept)
+      go (Some gate) = linked_too event s first (with_device c (new_device gate) s.net)
+          (device_net s.net first.silent.kept c (new_device gate) (joins_there c tables (first_luck lucks.calls) at))
+
+  declares_net : (event : Event) → is_declaration event ≡ true → IsBuilt event → (lucks : Lucks) → DeclaresNet n event (net_step_of n event lucks)
+  declares_net (events.Store number) d built lucks = declares_on (events.Store number) (events.Store number) lucks refl built refl refl
+  declares_net (events.Table table schema) d built lucks = declares_on (events.Table table schema) (events.Table table schema) lucks refl built refl refl
+  declares_net (events.Client c number tables) d built lucks = declares_client c number tables lucks built (client_at n.wire.world c) refl
+  declares_net other d built lucks = absurd (true≢false (sym d))
+
+  declares_gate : (number : ℕ) (o : Option Gateway) → IsSilent (gate_declared number o n)
+  declares_gate number None = record { kept = (gates_linked n (gate_declared number None n).gates k.kept).kept; sent = k.sent; packets = k.packets; whole = k.whole }
+  declares_gate number (Some gateway) = k
+
+  gate_wire : (number : ℕ) (o : Option Gateway) → ((gate_declared number o n).wire ≡ n.wire) × ((gate_declared number o n).sent ≡ n.sent)
+  gate_wire number None = (refl, refl)
+  gate_wire number (Some gateway) = (refl, refl)
+
+run_first : (run : List NetHappening) → AreDeclaredFirst run → AreBuilt run → (n : Net) → IsSilent n → IsRunFrom n run
+run_first [] first built n k = record { whole = []; built = tt; wire = refl; carried = tt }
+run_first (h ∷ more) first built n k = go h.event (declares h.event) refl first built.0 (λ f m s. run_first more f built.1 m s)
+  where
+    Rest : Type 0
+    Rest = AreDeclaredFirst more → (m : Net) → IsSilent m → IsRunFrom m more
+
+    go : (e : NetEvent) (b : Bool) → declares e ≡ b → MatchBool b (AreDeclaredFirst more) (AllByRecursion (λ (x : NetHappening). declares x.event ≡ false) more) → IsNetBuilt e → Rest
+        → IsRunFrom n (record { event = e; lucks = h.lucks } ∷ more)
+    go e false is f b rest = run_on (record { event = e; lucks = h.lucks } ∷ more) (is, f) (b, built.1) n k.kept
+    go (Of event) true is f b rest =
+        let d : DeclaresNet n event (net_step_of n event h.lucks) = declares_net n k event is b h.lucks in
+        let r = behind n event (net_step_of n event h.lucks) more d.carries (rest f (net_step_of n event h.lucks).net d.silent) in
+        record { whole = r.whole; built = r.built; wire = r.wire; carried = r.carried }
+    go (Gate number) true is f b rest =
+        let m : Net = gate_declared number (gate_at n number) n in
+        let same = gate_wire n k number (gate_at n number) in
+        let r : IsRunFrom m more = rest f m (declares_gate n k number (gate_at n number)) in
+        record {
+          whole = r.whole;
+          built = r.built;
+          wire = r.wire ∙ ap (λ (w : Wire). wire_from w r.whole) same.0;
+          carried = subst (λ (w : Wire). AreCarriedFrom (to_of n.sent) (wires_to w.packets) (turns_from m more) (wire_runs.turns_from w r.whole)) same.0
+              (subst (λ (sent : List net.Sent). AreCarriedFrom (to_of sent) (wires_to m.wire.packets) (turns_from m more) (wire_runs.turns_from m.wire r.whole)) same.1 r.carried);
+        }
+
+start_silent : IsSilent start
+start_silent = record {
+  kept = record { wire = start_kept; devices = λ c d at. absurd cc; sent = λ p a part is. absurd (among_none p a) };
+  sent = refl;
+  packets = refl;
+  whole = refl;
+}
+
+-- ---- every run
+
+pub run_of_wires : (run : List NetHappening) → AreDeclaredFirst run → AreBuilt run → IsRunOfWires run
+run_of_wires run first built = let r = run_first run first built start start_silent in record { whole = r.whole; built = r.built; wire = r.wire; carried = r.carried }

@@ -1,0 +1,129 @@
+-- A run with gateways beside the run of wires that it carries, turn by turn. What either has sent so far is a list of
+-- the nodes to which it sent packets, in order.
+use Rattle.std.specs.Prelude.{◌≡◌, ◌⊎◌, ℕ, Bool, true, false, not, List, [], ◌∷◌, ◌++◌, map, filter, slice_get, Some}
+use Rattle.std.specs.Prelude.{None}
+use Rattle.std.specs.List.{AllByRecursion}
+use Rattle.stab_base.specs.declared.node.Node.{Node}
+use Rattle.stab_base.specs.declared.node.Node.TheVariants as nodes
+use Rattle.stab_base.specs.declared.step.Step.TheVariants as steps
+use Rattle.table_model.specs.declared.event.Event.{Event}
+use Rattle.table_model.specs.declared.event.Event.TheVariants as events
+use Rattle.step_tables.specs.Facts.{Fact, Answer, Refusal, Line, AnswerLine, FactLine}
+use Rattle.step_tables.specs.Facts as facts
+use Rattle.world_tables.specs.Quiet.{sent_in}
+use Rattle.world_tables.specs.Turns.{Turn}
+
+-- ---- lines
+
+-- whether a fact is that a packet was sent
+abbrev pub is_sent : Fact → Bool
+is_sent (facts.Sent packet from to name) = true
+is_sent other = false
+
+abbrev pub without_sent : List Fact → List Fact
+without_sent some = filter (λ (fact : Fact). not (is_sent fact)) some
+
+-- the same answer with the lines that it counts, and the same facts but for the packets that are sent: a message goes
+-- by way of a gateway, and a client asks for a session behind its recovery. Where the wire tells nothing, nothing is
+-- told
+pub record AreLinesCarried (lines whole : List Line) : Type 0 where
+  pub head : List Line
+  pub told : List Fact
+  pub others : List Fact
+  pub lines_are : lines ≡ head ++ map FactLine told
+  pub whole_are : whole ≡ head ++ map FactLine others
+  pub same : without_sent told ≡ without_sent others
+  pub none : others ≡ [] → told ≡ []
+
+-- ---- events that a wire has too
+
+abbrev pub IsNoGate : Node → Type 0
+IsNoGate (nodes.Gate number) = ⊥
+IsNoGate other = Unit {0}
+
+-- A delivery to a client or to a Store is one of the part that the message is, to the same node: of its packet, which
+-- went straight. A client is declared without its gateway. A gateway has no work, doesn't crash and doesn't start on a
+-- wire; every other event is the same.
+abbrev pub IsEventCarried : List Node → List Node → Event → Event → Type 0
+IsEventCarried sent whole (events.Deliver packet) other =
+    (to : Node) × (number : ℕ) × IsNoGate to × (slice_get sent packet ≡ Some to) × (other ≡ events.Deliver number)
+    × (slice_get whole number ≡ Some to)
+IsEventCarried sent whole (events.Client client gate tables) other = other ≡ events.Client client None tables
+IsEventCarried sent whole (events.Work (nodes.Gate number)) other = ⊥
+IsEventCarried sent whole (events.WorkAll (nodes.Gate number)) other = ⊥
+IsEventCarried sent whole (events.Crash (nodes.Gate number) calls pick) other = ⊥
+IsEventCarried sent whole (events.Start (nodes.Gate number)) other = ⊥
+IsEventCarried sent whole event other = other ≡ event
+
+-- where these were sent with gateways, and on the wire
+pub record IsTurnCarried (sent whole : List Node) (turn other : Turn) : Type 0 where
+  pub event : IsEventCarried sent whole turn.event other.event
+  pub lines : AreLinesCarried turn.lines other.lines
+
+-- ---- turns that no wire has
+
+-- nothing is told but what is sent
+abbrev pub IsLoneRefusal : Refusal → Type 0
+IsLoneRefusal (facts.NoPacket sent) = Unit {0}
+IsLoneRefusal (facts.NodeDown node) = Unit {0}
+IsLoneRefusal facts.Offline = Unit {0}
+IsLoneRefusal (facts.Busy with) = Unit {0}
+IsLoneRefusal other = ⊥
+
+abbrev pub IsLoneAnswer : Answer → Type 0
+IsLoneAnswer facts.Done = Unit {0}
+IsLoneAnswer (facts.Refuses refusal) = IsLoneRefusal refusal
+IsLoneAnswer other = ⊥
+
+-- done or refused, and then packets that are sent
+pub record AreLone (lines : List Line) : Type 0 where
+  pub answer : Answer
+  pub is : IsLoneAnswer answer
+  pub told : List Fact
+  pub sent : AllByRecursion (λ (fact : Fact). is_sent fact ≡ true) told
+  pub lines_are : lines ≡ AnswerLine answer ∷ map FactLine told
+
+-- this answer alone
+abbrev pub IsOne : Answer → List Line → Type 0
+IsOne answer lines = lines ≡ AnswerLine answer ∷ []
+
+abbrev pub IsDown : ℕ → List Line → Type 0
+IsDown number lines = IsOne (facts.Refuses (facts.NodeDown (nodes.Gate number))) lines
+
+-- A delivery to a gateway, of a message that is no part, to a node that is down, or of no message; a link of a client
+-- that has a gateway; and what is done to a gateway.
+abbrev pub IsLone : Event → List Line → Type 0
+IsLone (events.Deliver packet) lines = AreLone lines
+IsLone (events.Link client up) lines = AreLone lines
+IsLone (events.Hold (nodes.Gate number)) lines = IsDown number lines
+IsLone (events.Free (nodes.Gate number)) lines = IsDown number lines
+IsLone (events.Work (nodes.Gate number)) lines = IsOne (facts.Did steps.Idle) lines ⊎ IsDown number lines
+IsLone (events.WorkAll (nodes.Gate number)) lines = IsOne (facts.Number 0) lines ⊎ IsDown number lines
+IsLone (events.Crash (nodes.Gate number) calls pick) lines = IsOne facts.Done lines ⊎ IsDown number lines
+IsLone (events.Start (nodes.Gate number)) lines = IsOne facts.Done lines
+IsLone other lines = ⊥
+
+-- ---- turns that the wire alone has: a client's link goes up or down there where its session begins or ends too, and
+-- around a message that comes to it without one
+
+abbrev pub IsLinkTurn : Turn → Type 0
+IsLinkTurn turn =
+    (client : ℕ) × (up : Bool)
+    × (turn ≡ record { event = events.Link client up; lines = AnswerLine facts.Done ∷ [] })
+
+abbrev pub AreLinkTurns : List Turn → Type 0
+AreLinkTurns turns = AllByRecursion IsLinkTurn turns
+
+-- ---- turn by turn
+
+abbrev pub AreCarriedFrom : List Node → List Node → List Turn → List Turn → Type 0
+AreCarriedFrom sent whole [] others = AreLinkTurns others
+AreCarriedFrom sent whole (turn ∷ turns) others =
+    (links : List Turn) × (rest : List Turn) × AreLinkTurns links × (others ≡ links ++ rest)
+    × ((IsLone turn.event turn.lines × AreCarriedFrom (sent ++ sent_in turn.lines) whole turns rest)
+    ⊎ ((other : Turn) × (more : List Turn) × (rest ≡ other ∷ more) × IsTurnCarried sent whole turn other
+    × AreCarriedFrom (sent ++ sent_in turn.lines) (whole ++ sent_in other.lines) turns more))
+
+-- the turns with gateways, and those of the wire
+abbrev pub AreCarried : List Turn → List Turn → Type 0
+AreCarried turns others = AreCarriedFrom [] [] turns others

@@ -1,0 +1,4 @@
+pub mod Devices
+pub mod Net
+pub mod Worked
+pub mod Runs

@@ -1,0 +1,393 @@
+-- The world of parts with gateways. A client is wired to the Stores, or has a gateway: what it sends goes there, and
+-- the gateway passes it on to the owner of the table as it is; what a Store answers comes back the same way. What
+-- clients and Stores make of a part that has come is what they make of it in the world of parts.
+use Rattle.std.specs.Prelude.{ℕ, ◌+◌, ◌==◌, ◌&&◌, Bool, true, false, List, [], ◌∷◌, ◌++◌, length, map}
+use Rattle.std.specs.Prelude.{slice_get, Option, Some, None, option_to_list, if◌then◌else◌}
+use Rattle.std.specs.List.{flat_map}
+use Rattle.std.specs.Ordering.{nat_cmp}
+use Rattle.std.specs.Map.{lookup}
+use Rattle.std.specs.BTreeMap.{is_at, insert_entry}
+use Rattle.std.specs.BTreeSet.{insert_key}
+use Rattle.stab_base.specs.declared.node.Node.{Node}
+use Rattle.stab_base.specs.declared.node.Node.TheVariants as nodes
+use Rattle.stab_base.specs.declared.step.Step.TheVariants as steps
+use Rattle.row_value.specs.declared.schema.Schema.{Schema}
+use Rattle.table_model.specs.declared.event.Event.{Event}
+use Rattle.table_model.specs.declared.event.Event.TheVariants as events
+use Rattle.table_model.specs.declared.message.Message.{Message}
+use Rattle.table_model.specs.declared.message.Message.TheVariants as messages
+use Rattle.table_model.specs.declared.message.OperationResponse.{OperationResponse}
+use Rattle.table_model.specs.declared.message.RestoreClientSubscriptions.{RestoreClientSubscriptions}
+use Rattle.table_model.specs.MessageNames.{name_of}
+use Rattle.step_tables.specs.Facts.{Fact, Answer, Refusal, Line, AnswerLine, FactLine}
+use Rattle.step_tables.specs.Facts as facts
+use Rattle.step_tables.specs.ClientMoves.{Client, ClientTask}
+use Rattle.step_tables.specs.StoreMoves.{StoreTask, version_at}
+use Rattle.world_tables.specs.World.{World, Hosted, Lucks, hosted_at, client_at, is_down, with_link, owner_of}
+use Rattle.world_tables.specs.World.{is_client_down, busy_table}
+use Rattle.part_tables.specs.Parts.{Part}
+use Rattle.message_parts.specs.Parts.{part_of, message_at}
+use Rattle.wire_tables.specs.Wire.{Wire, PartPacket, PartOutbox, WireStep, brought, wire_step}
+use Rattle.wire_tables.specs.Wire as wires
+use Rattle.gate_tables.specs.declared.timer.Placed.{Placed}
+use Rattle.gate_tables.specs.Gate.{Gateway, Running, Directory}
+use Rattle.gate_tables.specs.Gate as gate
+use Rattle.gated_tables.specs.Devices.{Device, new_device, is_online, or_zero, stamped, register, part_client}
+
+-- a message that was sent
+pub record Sent : Type 0 where
+  pub from : Node
+  pub to : Node
+  pub message : Message
+
+-- the world of the clients and the Stores, in which a client with a gateway counts as cut off while it isn't registered
+-- or its link is down; the gateways; of each client that has one what it has of it; and every message that was ever
+-- sent, in order
+pub record Net : Type 0 where
+  pub wire : Wire
+  pub gates : List (ℕ × Gateway)
+  pub devices : List (ℕ × Device)
+  pub sent : List Sent
+
+abbrev pub start : Net
+start = record { wire = wires.start; gates = []; devices = []; sent = [] }
+
+abbrev pub gate_at : Net → ℕ → Option Gateway
+gate_at n number = lookup (is_at (nat_cmp number)) n.gates
+
+abbrev pub device_at : Net → ℕ → Option Device
+device_at n c = lookup (is_at (nat_cmp c)) n.devices
+
+abbrev pub running_in : Option Gateway → Option Running
+running_in None = None
+running_in (Some gateway) = gateway.running
+
+abbrev pub has_none : {X : Type 0} → Option X → Bool
+has_none None = true
+has_none (Some x) = false
+
+-- a gateway that isn't declared is down too
+abbrev pub is_node_down : Net → Node → Bool
+is_node_down n (nodes.Gate number) = has_none (running_in (gate_at n number))
+is_node_down n node = is_down n.wire.world node
+
+-- what an event does; a gateway is declared
+pub data NetEvent : Type 0 where
+  Of : (event : Event) → NetEvent
+  Gate : (number : ℕ) → NetEvent
+
+-- ---- what is told and sent
+
+pub record NetOutbox : Type 0 where
+  pub facts : List Fact
+  pub sent : List Sent
+
+pub record NetStep : Type 0 where
+  pub net : Net
+  pub answer : Option Answer
+  pub counted : List Line
+  pub outs : List NetOutbox
+
+abbrev pub sent_lines : ℕ → List Sent → List Line
+sent_lines number [] = []
+sent_lines number (one ∷ sent) =
+    FactLine (facts.Sent number one.from one.to (name_of one.message)) ∷ sent_lines (number + 1) sent
+
+abbrev pub lines_from : ℕ → List NetOutbox → List Line
+lines_from number [] = []
+lines_from number (out ∷ outs) =
+    map FactLine out.facts ++ (sent_lines number out.sent ++ lines_from (number + length out.sent) outs)
+
+abbrev pub lines_of : Net → NetStep → List Line
+lines_of n s = map AnswerLine (option_to_list s.answer) ++ (s.counted ++ lines_from (length n.sent) s.outs)
+
+-- an answer, and nothing is told and sent
+abbrev pub still : Net → Answer → NetStep
+still n answer = record { net = n; answer = Some answer; counted = []; outs = [] }
+
+abbrev pub refused : Net → Refusal → NetStep
+refused n refusal = still n (facts.Refuses refusal)
+
+abbrev pub unless_down : Net → Node → NetStep → NetStep
+unless_down n node s = if is_node_down n node then refused n (facts.NodeDown node) else s
+
+-- an answer, and what a node that isn't part of the wire sends
+abbrev pub sending : Net → List Sent → NetStep
+sending n sent = record {
+  net = record n { sent = n.sent ++ sent };
+  answer = Some facts.Done;
+  counted = [];
+  outs = record { facts = []; sent = sent } ∷ [];
+}
+
+-- ---- sessions
+
+-- in the wire a client is cut off, or not
+abbrev pub cutting : ℕ → Bool → Wire → Wire
+cutting c linked v = record v { world = with_link c linked v.world }
+
+-- a client that is up is cut off where it isn't online
+abbrev pub cut_by : ℕ → Device → Net → Net
+cut_by c d n = if is_client_down (client_at n.wire.world c) then n
+    else record n { wire = cutting c (is_online d) n.wire }
+
+-- what a client has of its gateway is this
+abbrev pub with_device : ℕ → Device → Net → Net
+with_device c d n = cut_by c d (record n { devices = insert_entry nat_cmp n.devices c d })
+
+-- a client that starts has no session
+abbrev pub restarted : ℕ → Option Device → Net → Net
+restarted c None n = n
+restarted c (Some d) n = with_device c (record d { token = None }) n
+
+-- ---- which way a part goes
+
+-- what a client sends goes to its gateway with its token
+abbrev pub sent_by : PartPacket → ℕ → Option Device → Sent
+sent_by p c None = record { from = p.from; to = p.to; message = message_at p.part }
+sent_by p c (Some d) = record {
+  from = p.from;
+  to = nodes.Gate d.gate;
+  message = stamped (or_zero d.token) (message_at p.part);
+}
+
+-- and what is sent to it
+abbrev pub sent_to : PartPacket → Option Device → Sent
+sent_to p None = record { from = p.from; to = p.to; message = message_at p.part }
+sent_to p (Some d) = record { from = p.from; to = nodes.Gate d.gate; message = message_at p.part }
+
+abbrev pub routed_to : Net → PartPacket → Node → Sent
+routed_to n p (nodes.Client c) = sent_to p (device_at n c)
+routed_to n p to = sent_to p None
+
+abbrev pub routed_from : Net → PartPacket → Node → Sent
+routed_from n p (nodes.Client c) = sent_by p c (device_at n c)
+routed_from n p from = routed_to n p p.to
+
+abbrev pub routed : Net → PartPacket → Sent
+routed n p = routed_from n p p.from
+
+-- at the end of a recovery a client with its link up asks for a session
+abbrev pub asks_again : ℕ → Option Device → List Sent
+asks_again c None = []
+asks_again c (Some d) = if d.linked
+    then record { from = nodes.Client c; to = nodes.Gate d.gate; message = register c } ∷ []
+    else []
+
+abbrev pub asks_by : Net → Fact → List Sent
+asks_by n (facts.ClientRecovered c) = asks_again c (device_at n c)
+asks_by n other = []
+
+abbrev pub out_of : Net → PartOutbox → NetOutbox
+out_of n out = record { facts = out.facts; sent = map (routed n) out.packets ++ flat_map (asks_by n) out.facts }
+
+-- ---- a step of the wire, with what it sends on its way
+
+abbrev pub carried_on : Net → WireStep → NetStep
+carried_on n s = let outs : List NetOutbox = map (out_of n) s.outs in record {
+  net = record n { wire = s.wire; sent = n.sent ++ flat_map (λ (out : NetOutbox). out.sent) outs };
+  answer = s.answer;
+  counted = s.counted;
+  outs = outs;
+}
+
+-- ---- deliveries
+
+-- to a client: its link decides whether it takes a message, and not its session
+abbrev pub client_taken : Net → ℕ → PartPacket → Lucks → Option Device → NetStep
+client_taken n c p lucks None = carried_on n (brought n.wire p lucks (nodes.Client c))
+client_taken n c p lucks (Some d) =
+    let s : NetStep = carried_on n (brought (cutting c d.linked n.wire) p lucks (nodes.Client c)) in
+    record s { net = cut_by c d s.net }
+
+abbrev pub asks_session : Net → ℕ → Device → NetStep
+asks_session n c d = sending n (asks_again c (Some d))
+
+-- a gateway's answer: it gives a session, or ends it
+abbrev pub answered : Net → ℕ → OperationResponse → Device → NetStep
+answered n c m d =
+    if m.status == 19 then asks_session (with_device c (record d { token = None }) n) c d
+    else (if (m.status == 0) && (m.answered == 1)
+    then still (with_device c (record d { token = Some m.token }) n) facts.Done
+    else still n facts.Done)
+
+abbrev pub if_idle : Net → Lucks → Option (List ClientTask) → NetStep → NetStep
+if_idle n lucks (Some (task ∷ tasks)) s = refused n (facts.Busy lucks.shape.plan)
+if_idle n lucks other s = s
+
+abbrev pub agenda_in : Option Client → Option (List ClientTask)
+agenda_in None = None
+agenda_in (Some node) = node.agenda
+
+abbrev pub answer_taken : Net → ℕ → OperationResponse → Lucks → Option Device → NetStep
+answer_taken n c m lucks None = still n facts.Done
+answer_taken n c m lucks (Some d) =
+    if d.linked then if_idle n lucks (agenda_in (client_at n.wire.world c)) (answered n c m d)
+    else refused n facts.Offline
+
+abbrev pub to_client : Net → ℕ → Sent → Lucks → Option Part → NetStep
+to_client n c p lucks (Some part) =
+    client_taken n c (record { from = p.from; to = p.to; part = part }) lucks (device_at n c)
+to_client n c p lucks None = by_message p.message
+  where
+    by_message : Message → NetStep
+    by_message (messages.OperationResponse m) = answer_taken n c m lucks (device_at n c)
+    by_message other = still n facts.Done
+
+-- to a Store: what a client has sent comes from it, through a gateway or not
+abbrev pub restoring : ℕ → Sent → RestoreClientSubscriptions → Sent
+restoring number p m = record {
+  from = nodes.Store number;
+  to = p.from;
+  message = messages.RestoreClientSubscriptions (record m { reply = true; subscriptions = [] });
+}
+
+abbrev pub busy_with : Option Hosted → ℕ
+busy_with None = 0
+busy_with (Some hosted) = by_agenda hosted.store.agenda
+  where
+    by_agenda : Option (List StoreTask) → ℕ
+    by_agenda (Some (task ∷ tasks)) = version_at hosted.store.disk task.change
+    by_agenda other = 0
+
+-- the subscriptions that a Store has kept, of which there are none yet; it is busy where any of its tables is
+abbrev pub restored : Net → ℕ → Sent → RestoreClientSubscriptions → Option ℕ → NetStep
+restored n number p m None = if m.reply then still n facts.Done else sending n (restoring number p m ∷ [])
+restored n number p m (Some table) = refused n (facts.Busy (busy_with (hosted_at n.wire.world table)))
+
+abbrev pub to_store : Net → ℕ → Sent → Lucks → Option Part → NetStep
+to_store n number p lucks (Some part) = carried_on n
+    (brought n.wire (record { from = nodes.Client (part_client part); to = p.to; part = part }) lucks
+    (nodes.Store number))
+to_store n number p lucks None = by_message p.message
+  where
+    by_message : Message → NetStep
+    by_message (messages.RestoreClientSubscriptions m) =
+        restored n number p m (busy_table n.wire.world number)
+    by_message other = still n facts.Done
+
+-- to a gateway
+abbrev pub place_of : World → ℕ × Schema → ℕ × Placed
+place_of w e = (e.0, record { owner = owner_of w e.0; scheme = e.1.scheme })
+
+abbrev pub directory_of : World → Directory
+directory_of w = let places : List (ℕ × Placed) = map (place_of w) w.schemas in record {
+  tables = places;
+  owners = owners_in places;
+}
+  where
+    owners_in : List (ℕ × Placed) → List ℕ
+    owners_in [] = []
+    owners_in (e ∷ more) = insert_key nat_cmp (owners_in more) e.1.owner
+
+abbrev pub with_running : ℕ → ℕ → Running → Net → Net
+with_running number starts running n = record n {
+  gates = insert_entry nat_cmp n.gates number (record { starts = starts; running = Some running });
+}
+
+abbrev pub sent_of : ℕ → Node × Message → Sent
+sent_of number send = record { from = nodes.Gate number; to = send.0; message = send.1 }
+
+abbrev pub gate_done : Net → ℕ → ℕ → gate.Done → NetStep
+gate_done n number starts d =
+    sending (with_running number starts d.running n) (map (sent_of number) d.sends)
+
+abbrev pub to_gate : Net → ℕ → Sent → Option Gateway → NetStep
+to_gate n number p None = still n facts.Done
+to_gate n number p (Some gateway) = by_running gateway.running
+  where
+    by_running : Option Running → NetStep
+    by_running None = still n facts.Done
+    by_running (Some running) = gate_done n number gateway.starts
+        (gate.taken (directory_of n.wire.world) number gateway.starts running p.from p.message)
+
+abbrev pub delivered_to : Net → Sent → Lucks → Node → NetStep
+delivered_to n p lucks (nodes.Store number) =
+    unless_down n (nodes.Store number) (to_store n number p lucks (part_of p.message))
+delivered_to n p lucks (nodes.Client c) =
+    unless_down n (nodes.Client c) (to_client n c p lucks (part_of p.message))
+delivered_to n p lucks (nodes.Gate number) =
+    unless_down n (nodes.Gate number) (to_gate n number p (gate_at n number))
+
+abbrev pub delivered : Net → Lucks → Option Sent → NetStep
+delivered n lucks None = refused n (facts.NoPacket (length n.sent))
+delivered n lucks (Some p) = delivered_to n p lucks p.to
+
+-- ---- links
+
+-- a client whose link comes up asks for a session; one whose link goes down keeps it
+abbrev pub relinked : Net → ℕ → Bool → Device → NetStep
+relinked n c true d = if d.linked then still n facts.Done
+    else (let up : Device = record d { linked = true } in asks_session (with_device c up n) c up)
+relinked n c false d = still (with_device c (record d { linked = false }) n) facts.Done
+
+abbrev pub linked : Net → ℕ → Bool → Lucks → Option Device → NetStep
+linked n c up lucks None = carried_on n (wire_step n.wire (events.Link c up) lucks)
+linked n c up lucks (Some d) = unless_down n (nodes.Client c) (relinked n c up d)
+
+-- ---- declarations
+
+abbrev pub joined_by : ℕ → Option ℕ → Net → Net
+joined_by c None n = n
+joined_by c (Some number) n = with_device c (new_device number) n
+
+-- a client that is there already stays as it is
+abbrev pub joined : Net → ℕ → Option ℕ → List ℕ → Lucks → Option Client → NetStep
+joined n c number tables lucks (Some node) = carried_on n (wire_step n.wire (events.Client c None tables) lucks)
+joined n c number tables lucks None =
+    let s : NetStep = carried_on n (wire_step n.wire (events.Client c None tables) lucks) in
+    record s { net = joined_by c number s.net }
+
+abbrev pub new_gate : Gateway
+new_gate = record { starts = 0; running = Some (record { drawn = 0; sessions = [] }) }
+
+abbrev pub gate_declared : ℕ → Option Gateway → Net → Net
+gate_declared number None n = record n { gates = insert_entry nat_cmp n.gates number new_gate }
+gate_declared number (Some gateway) n = n
+
+-- ---- what is done to a gateway, which has no devices
+
+abbrev pub gate_crashed : Net → ℕ → Option Gateway → NetStep
+gate_crashed n number None = still n facts.Done
+gate_crashed n number (Some gateway) =
+    still (record n { gates = insert_entry nat_cmp n.gates number (gate.crashed gateway) }) facts.Done
+
+-- no token of an earlier start counts any more
+abbrev pub gate_started : Net → ℕ → Option Gateway → NetStep
+gate_started n number None = still n facts.Done
+gate_started n number (Some gateway) = if has_none gateway.running
+    then still (record n { gates = insert_entry nat_cmp n.gates number (gate.started gateway (gateway.starts + 1)) })
+    facts.Done
+    else still n facts.Done
+
+-- ---- a client that is down is started
+
+abbrev pub client_started : Net → ℕ → Lucks → NetStep
+client_started n c lucks = let s : NetStep = carried_on n (wire_step n.wire (events.Start (nodes.Client c)) lucks) in
+    if is_client_down (client_at n.wire.world c) then record s { net = restarted c (device_at n c) s.net } else s
+
+-- ---- events
+
+abbrev pub net_step_of : Net → Event → Lucks → NetStep
+net_step_of n (events.Client c number tables) lucks = joined n c number tables lucks (client_at n.wire.world c)
+net_step_of n (events.Deliver number) lucks = delivered n lucks (slice_get n.sent number)
+net_step_of n (events.Link c up) lucks = linked n c up lucks (device_at n c)
+net_step_of n (events.Start (nodes.Client c)) lucks = client_started n c lucks
+net_step_of n (events.Hold (nodes.Gate number)) lucks =
+    unless_down n (nodes.Gate number) (carried_on n (wire_step n.wire (events.Hold (nodes.Gate number)) lucks))
+net_step_of n (events.Free (nodes.Gate number)) lucks =
+    unless_down n (nodes.Gate number) (carried_on n (wire_step n.wire (events.Free (nodes.Gate number)) lucks))
+net_step_of n (events.Work (nodes.Gate number)) lucks =
+    unless_down n (nodes.Gate number) (still n (facts.Did steps.Idle))
+net_step_of n (events.WorkAll (nodes.Gate number)) lucks =
+    unless_down n (nodes.Gate number) (still n (facts.Number 0))
+net_step_of n (events.Crash (nodes.Gate number) calls pick) lucks =
+    unless_down n (nodes.Gate number) (gate_crashed n number (gate_at n number))
+net_step_of n (events.Start (nodes.Gate number)) lucks = gate_started n number (gate_at n number)
+net_step_of n event lucks = carried_on n (wire_step n.wire event lucks)
+
+-- what an event makes of the world, where its device calls go so
+abbrev pub net_step : Net → NetEvent → Lucks → NetStep
+net_step n (Of event) lucks = net_step_of n event lucks
+net_step n (Gate number) lucks =
+    record { net = gate_declared number (gate_at n number) n; answer = None; counted = []; outs = [] }

@@ -1,0 +1,175 @@
+-- Worked scripts with what they write: a gateway crashes while an answer is on its way, and its client registers again;
+-- a client crashes, and its link goes down.
+use Rattle.std.specs.Prelude.{ℕ, true, false, List, [], ◌∷◌, codes, Some, pos}
+use Rattle.stab_base.specs.declared.node.Node.{Node}
+use Rattle.stab_base.specs.declared.node.Node.TheVariants as nodes
+use Rattle.row_value.specs.declared.content.Cell.TheVariants as cells
+use Rattle.row_value.specs.declared.content.Content.TheVariants.{Row}
+use Rattle.row_value.specs.declared.schema.ColumnKind.TheVariants as kinds
+use Rattle.row_value.specs.declared.schema.Schema.{Schema}
+use Rattle.row_value.specs.declared.schema.Scheme.TheVariants.{Causal}
+use Rattle.table_model.specs.declared.event.Event.TheVariants as events
+use Rattle.table_model.specs.declared.message_name.MessageName.{MessageName}
+use Rattle.table_model.specs.declared.message_name.MessageName.TheVariants as names
+use Rattle.step_tables.specs.Facts.{Line, AnswerLine, FactLine}
+use Rattle.step_tables.specs.Facts as facts
+use Rattle.world_tables.specs.World.{no_lucks}
+use Rattle.gated_tables.specs.Net.{Net, NetEvent, NetStep, Of, Gate, net_step, lines_of}
+
+-- what each event writes where all goes well
+abbrev pub written : Net → List NetEvent → List (List Line)
+written n [] = []
+written n (event ∷ more) = let s : NetStep = net_step n event no_lucks in lines_of n s ∷ written s.net more
+
+abbrev pub the_row : List ℕ
+the_row = 0 ∷ 0 ∷ 0 ∷ 0 ∷ 0 ∷ 0 ∷ 64 ∷ 0 ∷ 128 ∷ 0 ∷ 0 ∷ 0 ∷ 0 ∷ 0 ∷ 0 ∷ 1 ∷ []
+
+abbrev pub notes : Schema
+notes = record {
+  name = codes "notes";
+  scheme = Causal;
+  chunk = 64;
+  columns = record { name = codes "n"; kind = kinds.Int } ∷ [];
+}
+
+abbrev pub c1 : Node
+c1 = nodes.Client 1
+
+abbrev pub g1 : Node
+g1 = nodes.Gate 1
+
+abbrev pub s1 : Node
+s1 = nodes.Store 1
+
+abbrev pub deliver : ℕ → NetEvent
+deliver packet = Of (events.Deliver packet)
+
+abbrev pub sync : NetEvent
+sync = Of (events.Sync 1 1)
+
+abbrev pub registering_again : List NetEvent
+registering_again =
+    Of (events.Store 1)
+    ∷ Gate 1
+    ∷ Of (events.Table 1 notes)
+    ∷ Of (events.Client 1 (Some 1) (1 ∷ []))
+    ∷ Of (events.Link 1 true)
+    ∷ deliver 0
+    ∷ deliver 1
+    ∷ Of (events.Write 1 1 the_row (Row (cells.Int (pos 5) ∷ []) []))
+    ∷ sync
+    ∷ deliver 3
+    ∷ deliver 4
+    ∷ Of (events.Crash g1 0 0)
+    ∷ Of (events.Start g1)
+    ∷ deliver 5
+    ∷ sync
+    ∷ deliver 6
+    ∷ deliver 7
+    ∷ deliver 8
+    ∷ deliver 9
+    ∷ sync
+    ∷ deliver 11
+    ∷ deliver 12
+    ∷ deliver 13
+    ∷ deliver 14
+    ∷ []
+
+abbrev pub ok : Line
+ok = AnswerLine facts.Done
+
+abbrev pub sent : ℕ → Node → Node → MessageName → Line
+sent packet from to name = FactLine (facts.Sent packet from to name)
+
+abbrev pub registering_again_written : List (List Line)
+registering_again_written =
+    []
+    ∷ []
+    ∷ []
+    ∷ []
+    ∷ (ok ∷ sent 0 c1 g1 names.RegisterDevice ∷ [])
+    ∷ (ok ∷ sent 1 g1 c1 names.OperationResponse ∷ sent 2 g1 s1 names.RestoreClientSubscriptions ∷ [])
+    ∷ (ok ∷ [])
+    ∷ (AnswerLine (facts.Number 1) ∷ FactLine (facts.Client (facts.Wrote (record {
+      client = 1;
+      number = 1;
+      table = 1;
+      row = the_row;
+      read = 0;
+      content = Row (cells.Int (pos 5) ∷ []) [];
+    }))) ∷ [])
+    ∷ (AnswerLine (facts.Number 1) ∷ sent 3 c1 g1 names.SyncRequest ∷ [])
+    ∷ (ok ∷ sent 4 g1 s1 names.SyncRequest ∷ [])
+    ∷ (ok ∷ FactLine (facts.Accepted 1 (record {
+      row = the_row;
+      version = 1;
+      client = 1;
+      number = 1;
+      base = 0;
+    })) ∷ sent 5 s1 g1 names.SyncResponse ∷ [])
+    ∷ (ok ∷ [])
+    ∷ (ok ∷ [])
+    ∷ (ok ∷ [])
+    ∷ (AnswerLine (facts.Number 1) ∷ sent 6 c1 g1 names.SyncRequest ∷ [])
+    ∷ (ok ∷ sent 7 g1 c1 names.OperationResponse ∷ [])
+    ∷ (ok ∷ sent 8 c1 g1 names.RegisterDevice ∷ [])
+    ∷ (ok ∷ sent 9 g1 c1 names.OperationResponse ∷ sent 10 g1 s1 names.RestoreClientSubscriptions ∷ [])
+    ∷ (ok ∷ [])
+    ∷ (AnswerLine (facts.Number 1) ∷ sent 11 c1 g1 names.SyncRequest ∷ [])
+    ∷ (ok ∷ sent 12 g1 s1 names.SyncRequest ∷ [])
+    ∷ (ok ∷ sent 13 s1 g1 names.SyncResponse ∷ [])
+    ∷ (ok ∷ sent 14 g1 c1 names.SyncResponse ∷ [])
+    ∷ (ok ∷ FactLine (facts.Client (facts.Acked 1 1 1 the_row 1)) ∷ [])
+    ∷ []
+
+abbrev pub pull : NetEvent
+pull = Of (events.Pull 1 1)
+
+abbrev pub client_goes_down : List NetEvent
+client_goes_down =
+    Of (events.Store 1)
+    ∷ Gate 1
+    ∷ Of (events.Table 1 notes)
+    ∷ Of (events.Client 1 (Some 1) (1 ∷ []))
+    ∷ Of (events.Link 1 true)
+    ∷ deliver 0
+    ∷ deliver 1
+    ∷ Of (events.Crash c1 0 0)
+    ∷ Of (events.Start c1)
+    ∷ pull
+    ∷ deliver 2
+    ∷ deliver 3
+    ∷ deliver 4
+    ∷ deliver 5
+    ∷ Of (events.Link 1 false)
+    ∷ pull
+    ∷ deliver 5
+    ∷ Of (events.Link 1 true)
+    ∷ pull
+    ∷ []
+
+abbrev pub offline : Line
+offline = AnswerLine (facts.Refuses facts.Offline)
+
+abbrev pub client_goes_down_written : List (List Line)
+client_goes_down_written =
+    []
+    ∷ []
+    ∷ []
+    ∷ []
+    ∷ (ok ∷ sent 0 c1 g1 names.RegisterDevice ∷ [])
+    ∷ (ok ∷ sent 1 g1 c1 names.OperationResponse ∷ sent 2 g1 s1 names.RestoreClientSubscriptions ∷ [])
+    ∷ (ok ∷ [])
+    ∷ (ok ∷ [])
+    ∷ (ok ∷ FactLine (facts.ClientRecovered 1) ∷ sent 3 c1 g1 names.RegisterDevice ∷ [])
+    ∷ (offline ∷ [])
+    ∷ (ok ∷ sent 4 s1 g1 names.RestoreClientSubscriptions ∷ [])
+    ∷ (ok ∷ sent 5 g1 c1 names.OperationResponse ∷ sent 6 g1 s1 names.RestoreClientSubscriptions ∷ [])
+    ∷ (ok ∷ [])
+    ∷ (ok ∷ [])
+    ∷ (ok ∷ [])
+    ∷ (offline ∷ [])
+    ∷ (offline ∷ [])
+    ∷ (ok ∷ sent 7 c1 g1 names.RegisterDevice ∷ [])
+    ∷ (ok ∷ sent 8 c1 g1 names.PullRequest ∷ [])
+    ∷ []

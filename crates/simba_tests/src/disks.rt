@@ -121,3 +121,43 @@ fn a_depot_that_fails_ends_the_run(rt: HostRuntime) -> Result<(), Fail> {
     }
     Ok(())
 }
+
+// A table whose first disk fails where it is declared, and then a Store, which keeps it and `g`; `b` stays at S1.
+const FAILED: &str = "store S1\n\
+table T1 a eventual 64 n:int\n\
+table T2 b eventual 64 n:int\n\
+table T3 g eventual 64 n:int\n\
+store S2\n\
+history T1\n\
+hold S2\n\
+do S1\n\
+sshow T2 00000000-0000-4000-8000-000000000001\n\
+chunks T3\n\
+start S2\n\
+chunks T1\n\
+chunks T3\n\
+crash S1 0 0\n\
+start S1\n";
+
+const FAILED_LINES: &str = "ok 0\n\
+no 30 S2\n\
+ok 0\n\
+no 27\n\
+no 30 S2\n\
+ok\n\
+recovered S2 T1\n\
+recovered S2 T3\n\
+ok 0\n\
+ok 0\n\
+ok\n\
+ok\n\
+recovered S1 T2\n";
+
+#[test]
+fn a_declaration_that_fails_takes_its_owner_down(rt: HostRuntime) -> Result<(), Fail> {
+    let mut depot = FusedDepot::new(rt.alloc(), 0, 0);
+    let (status, written) = ends_on(rt.alloc(), FAILED, &mut depot)?;
+    assert_eq!(rt; status, 0);
+    assert!(rt; written.as_slice() == FAILED_LINES.as_bytes());
+    Ok(())
+}

@@ -42,10 +42,21 @@ for document in DOCUMENTS:
         if not line.strip():
             folder = None
 
-drawn = Path("docs/ARCHITECTURE.md").read_text()
+ARCHITECTURE = "docs/ARCHITECTURE.md"
+text = Path(ARCHITECTURE).read_text()
+drawing = set(re.findall(r"\w+", text.split("```")[1]))
 for crate in sorted(CRATES):
-    if not re.search(rf"\b{crate}\b", drawn):
-        faults.append(f"docs/ARCHITECTURE.md: the crate {crate} isn't on the map")
+    if not re.search(rf"\b{crate}\b", text):
+        faults.append(f"{ARCHITECTURE}: the crate {crate} isn't on the map")
+    elif crate not in drawing and not re.search(r"_(tests|bench|kit|rows)$", crate):
+        faults.append(f"{ARCHITECTURE}: the crate {crate} isn't in the drawing")
+for word in sorted(drawing - CRATES):
+    if "_" in word:
+        faults.append(f"{ARCHITECTURE}: the drawing has {word}, which is no crate")
+for document in ("README.md", ARCHITECTURE):
+    for crate in re.findall(r"^\| `(\w+)` \|", Path(document).read_text(), re.M):
+        if "_" in crate and crate not in CRATES:
+            faults.append(f"{document}: {crate} is no crate")
 
 print("\n".join(faults) if faults else "documents: what they name is there")
 sys.exit(1 if faults else 0)

@@ -393,6 +393,7 @@ module _ (c t : ℕ) (w : World) (is : IsClosed c t w) where
 
   pub step_is : (event : Event) (lucks : Lucks) → StepIs event (step w event lucks)
   step_is (events.Store number) lucks = kept_is (with_store number w) (same_keeps c t w (with_store number w) is (refl, refl))
+  step_is (events.Gate number) lucks = kept_is w (same_keeps c t w w is (refl, refl))
   step_is (events.Table table schema) lucks = kept_is _ (declared_kept table schema (first_luck lucks.calls) (hosted_at w table))
   step_is (events.Client d gate tables) lucks = joined_is d gate tables (first_luck lucks.calls) (client_at w d) refl
   step_is (events.Write d table row x) lucks = kept_is _ (call_kept d (client.Write table row x) lucks.shape lucks.calls tt (client_at w d) refl)

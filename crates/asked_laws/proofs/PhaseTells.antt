@@ -355,6 +355,7 @@ module _ (c : ℕ) (w : World) where
 
     step_tells : (event : Event) (lucks : Lucks) → Tells (step w event lucks).world (goes_down c sent event (step w event lucks).answer)
     step_tells (events.Store number) lucks = same_tells (with_store number w) refl
+    step_tells (events.Gate number) lucks = same_tells w refl
     step_tells (events.Table table schema) lucks =
         let v : World = declared w table schema (first_luck lucks.calls) (hosted_at w table) in same_tells v (side_away v (declared_same table schema (first_luck lucks.calls) (hosted_at w table)))
     step_tells (events.Client d gate tables) lucks = joined_tells d tables (first_luck lucks.calls) (client_at w d) refl

@@ -141,6 +141,7 @@ module _ (a : Asked) (w : World) (fine : AreFine a w) where
 
   pub step_goes : (event : Event) (lucks : Lucks) → StepGoes a w event (step w event lucks)
   step_goes (events.Store number) lucks = unsaid (events.Store number) (with_store number w) fine refl
+  step_goes (events.Gate number) lucks = unsaid (events.Gate number) w fine refl
   step_goes (events.Table table schema) lucks = declared_goes table schema (first_luck lucks.calls) (hosted_at w table)
   step_goes (events.Client c gate tables) lucks = joined_goes c gate tables (first_luck lucks.calls) (client_at w c)
   step_goes (events.Write c table row x) lucks = call_goes a w fine (events.Write c table row x) c (client.Write table row x) lucks.shape lucks.calls (λ node final lets. tt) (client_at w c) refl

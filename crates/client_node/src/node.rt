@@ -1,12 +1,13 @@
 //! A client on its three devices.
 ghost use Rattle.std.specs.List.{AllByRecursion};
 ghost use Rattle.std.specs.Prelude.{◌≡◌, ◌++◌, ℕ, [], map, true, false, None, OnOk, OnErr, IsErrOf};
-ghost use Rattle.disk_trait.specs.Fuse.{inner_of};
+ghost use Rattle.disk_trait.specs.Fuse.{behind, inner_of};
 ghost use Rattle.vault.specs.Standing.{disk_of};
 ghost use Rattle.chunk_store.specs.Standing as chunks;
 ghost use Rattle.slot_store.specs.Standing as slots;
 ghost use Rattle.plan_log.specs.Standing as journals;
-ghost use Rattle.client_journal.specs.Standing.{writes_of};
+ghost use Rattle.client_journal.specs.Plan.{plan_at_work};
+ghost use Rattle.client_journal.specs.Standing.{devs as held_by, writes_of};
 ghost use Rattle.step_tables.specs.ClientMoves.{Client};
 ghost use Rattle.step_tables.specs.Lines.{fact_of};
 ghost use Rattle.step_tables.specs.Travels.{send_of};
@@ -146,6 +147,16 @@ impl<D: Disk + Drop> ClientNode<D> {
     {
         let is_idle = self.devs.idle();
         !is_idle
+    }
+
+    /// The plan that the node is at work on; 0 where no plan has begun, as where a start drops the chunks of one that
+    /// wasn't committed.
+    pub fn plan_at_work(&self) -> u64
+        requires node { IsNode D.state self.now }
+        requires up { self.now.is_up ≡ true }
+        ensures { result ≡ plan_at_work (held_by (behind D.state) self.now.devs) (writes_of self.now.devs) }
+    {
+        self.devs.plan_at_work()
     }
 
     /// Hands over what was gathered. It takes no memory.

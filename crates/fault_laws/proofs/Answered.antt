@@ -147,12 +147,14 @@ started_answered w shape lucks node = at node
 
 abbrev pub is_declaration : Event → Bool
 is_declaration (events.Store number) = true
+is_declaration (events.Gate number) = true
 is_declaration (events.Table table schema) = true
 is_declaration (events.Client c gate tables) = true
 is_declaration other = false
 
 pub step_answered : (w : World) (event : Event) (lucks : Lucks) → is_declaration event ≡ false → IsAnswered (step w event lucks)
 step_answered w (events.Store number) lucks e = absurd cc
+step_answered w (events.Gate number) lucks e = absurd cc
 step_answered w (events.Table table schema) lucks e = absurd cc
 step_answered w (events.Client c gate tables) lucks e = absurd cc
 step_answered w (events.Write c table row content) lucks e = call_answered w c (client.Write table row content) lucks.shape lucks.calls (client_at w c)

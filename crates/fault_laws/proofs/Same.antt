@@ -471,6 +471,7 @@ crash_same w node calls pick lucks e = go (is_down w node) e
 
 pub step_same : (w : World) (event : Event) (lucks : Lucks) → is_device_fault w event lucks ≡ false → step w event lucks ≡ step w event (quiet_lucks event lucks)
 step_same w (events.Store number) lucks e = refl
+step_same w (events.Gate number) lucks e = refl
 step_same w (events.Table table schema) lucks e = go (hosted_at w table) e
   where
     go : (o : Option Hosted) → fails_new o lucks.calls ≡ false → silent (declared w table schema (first_luck lucks.calls) o) ≡ silent (declared w table schema messages.Done o)

@@ -399,6 +399,7 @@ names_fine (name ∷ names) = refl
 
 pub fine_step : (w : World) (event : Event) (lucks : Lucks) → is_device_fault w event (quiet_lucks event lucks) ≡ false
 fine_step w (events.Store number) lucks = refl
+fine_step w (events.Gate number) lucks = refl
 fine_step w (events.Table table schema) lucks = go (hosted_at w table)
   where
     go : (o : Option Hosted) → fails_new o [] ≡ false

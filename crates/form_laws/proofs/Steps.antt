@@ -236,6 +236,7 @@ linked_forms w c up (Some node) = up_forms w (nodes.Client c) _ (tt, tt)
 
 pub step_forms : (w : World) → HaveValues w → (event : Event) (lucks : Lucks) → HasForms (step w event lucks)
 step_forms w values (events.Store number) lucks = (tt, tt)
+step_forms w values (events.Gate number) lucks = (tt, tt)
 step_forms w values (events.Table table schema) lucks = (tt, tt)
 step_forms w values (events.Client c gate tables) lucks = (tt, tt)
 step_forms w values (events.Write c table row content) lucks =

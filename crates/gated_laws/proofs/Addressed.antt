@@ -252,6 +252,7 @@ module _ (w : World) (a : IsAddressed w) (none : w.packets ≡ []) where
         packets = none;
         clients = λ c there. there;
       }
+      go (events.Gate number) d f = record { addressed = a; packets = none; clients = λ c there. there }
       go (events.Table table schema) d f = declares_table table schema (first_luck lucks.calls) (hosted_at w table) f
       go (events.Client c gate tables) d f = declares_client c tables (first_luck lucks.calls) (client_at w c) f
       go other d f = absurd (true≢false (sym d))

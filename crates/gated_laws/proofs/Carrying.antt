@@ -37,19 +37,19 @@ use Rattle.gated_tables.specs.Net.{Sent, Net, NetStep, gate_at, device_at, has_n
 use Rattle.gated_tables.specs.Net.{carried_on}
 use Rattle.gated_tables.specs.Net.{client_taken, asks_session, answered, if_idle, agenda_in, answer_taken, to_client, restoring, busy_with, restored, to_store, directory_of, with_running}
 use Rattle.gated_tables.specs.Net.{sent_of, gate_done, to_gate}
-use Rattle.gated_tables.specs.Net.{delivered_to, relinked, linked, gate_crashed, gate_started, client_started, net_step_of}
+use Rattle.gated_tables.specs.Net.{delivered_to, relinked, linked, gate_crashed, gate_started, client_started, net_step}
 use Rattle.gated_tables.specs.Net as net
 use Rattle.gated_laws.specs.Carried.{IsNoGate, IsEventCarried, IsLoneAnswer, AreLone, IsLone}
 use Rattle.gated_laws.proofs.HandedOn.{way_of, AreHandedOn, handed_on}
 use Rattle.gated_laws.proofs.NetLines.{to_of, wires_to}
 use Rattle.gated_laws.proofs.KeptWires.{ComesFrom, IsPartAddressed, parts_go, KeepsWire, step_keeps, IsLinked, none_linked, cut_linked}
-use Rattle.gated_laws.proofs.KeptNets.{IsGate, IsSentAs, AreParts, IsKeptNet, no_part, none_asked, IsLinkedNet, gates_linked, cut_net, device_net, Carries, then_carries, shares, stays_alone}
+use Rattle.gated_laws.proofs.KeptNets.{IsGate, IsSentAs, AreParts, IsKeptNet, no_part, none_asked, IsLinkedNet, gates_linked, cut_net, device_net, Carries, then_carries, carries_more, shares, stays_alone}
 use Rattle.gated_laws.proofs.KeptNets.{answers_alone, unless_node_down, itself}
 use Rattle.gated_laws.proofs.KeptNets.{sends_alone}
 
 -- ---- a part that comes to a Store is its client's
 
-from_client : (owners : ℕ → ℕ) (part : Part) (from to : Node) (number : ℕ) → ComesFrom part from → to ≡ way_of owners part → to ≡ nodes.Store number → from ≡ nodes.Client (part_client part)
+pub from_client : (owners : ℕ → ℕ) (part : Part) (from to : Node) (number : ℕ) → ComesFrom part from → to ≡ way_of owners part → to ≡ nodes.Store number → from ≡ nodes.Client (part_client part)
 from_client owners (Asks head) from to number c g is = c
 from_client owners (Responds r) from to number c g is = absurd (let both : nodes.Store number ≡ nodes.Client r.client = sym is ∙ g in cc)
 from_client owners (Pulls q) from to number c g is = c
@@ -68,7 +68,7 @@ module _ (v : Wire) (c : ℕ) (part : Part) (from other : Node) (lucks : Lucks) 
   abbrev two : PartPacket
   two = record { from = other; to = nodes.Client c; part = part }
 
-  from_unread : brought v one lucks (nodes.Client c) ≡ brought v two lucks (nodes.Client c)
+  pub from_unread : brought v one lucks (nodes.Client c) ≡ brought v two lucks (nodes.Client c)
   from_unread = go (is_cut v.world c)
     where
       by_luck : (kept : Wire) (luck : Luck) → waits v kept one lucks luck ≡ waits v kept two lucks luck
@@ -119,10 +119,10 @@ module _ (n : Net) (k : IsKeptNet n) where
     is_delivered : wire_step v (events.Deliver place.0) lucks ≡ brought v packet lucks to
     is_delivered = ap (delivered v lucks) place.1 ∙ ap (brought v packet lucks) same
 
-    packet_carries : Carries n (events.Deliver number) (carried_on n (brought v packet lucks to))
+    packet_carries : Carries 0 n (events.Deliver number) (carried_on n (brought v packet lucks to))
     packet_carries =
         let s : KeepsWire v (wire_step v (events.Deliver place.0) lucks).wire = step_keeps v before.kept (events.Deliver place.0) refl tt lucks in
-        subst (λ (x : WireStep). Carries n (events.Deliver number) (carried_on n x)) is_delivered
+        subst (λ (x : WireStep). Carries 0 n (events.Deliver number) (carried_on n x)) is_delivered
         (shares n k v before (events.Deliver number) (events.Deliver place.0) lucks tt (
           to,
           place.0,
@@ -132,7 +132,7 @@ module _ (n : Net) (k : IsKeptNet n) where
           slice_get-map (λ (x : PartPacket). x.to) v.packets place.0 ∙ (ap (option_map (λ (x : PartPacket). x.to)) place.1 ∙ ap (λ (x : Node). Some x) same),
         ) s.kept s.clients)
 
-  goes_there : (p : Sent) (part : Part) (to : Node) → IsNoGate to → p.to ≡ to → (a : IsSentAs n.wire p.to part) → a.packet.to ≡ to
+  pub goes_there : (p : Sent) (part : Part) (to : Node) → IsNoGate to → p.to ≡ to → (a : IsSentAs n.wire p.to part) → a.packet.to ≡ to
   goes_there p part to party here a = ⊎_elim (λ e. sym e ∙ here) (λ gate. absurd (not_gate to party (subst IsGate here gate))) a.to_is
     where
       not_gate : (x : Node) → IsNoGate x → IsGate x → ⊥
@@ -145,10 +145,11 @@ module _ (n : Net) (k : IsKeptNet n) where
 
     -- to a Store
     store_carries : (m : ℕ) → p.to ≡ nodes.Store m
-        → Carries n (events.Deliver number) (carried_on n (brought n.wire (record { from = nodes.Client (part_client part); to = p.to; part = part }) lucks (nodes.Store m)))
+        → Carries 1 n (events.Deliver number) (carried_on n (brought n.wire (record { from = nodes.Client (part_client part); to = p.to; part = part }) lucks (nodes.Store m)))
     store_carries m here =
-        subst (λ (x : PartPacket). Carries n (events.Deliver number) (carried_on n (brought n.wire x lucks (nodes.Store m)))) whole
-        (packet_carries n.wire (none_linked n.wire k.wire) number p at sent_as.packet sent_as.stands (nodes.Store m) tt here there lucks)
+        carries_more n (events.Deliver number) _ (
+        subst (λ (x : PartPacket). Carries 0 n (events.Deliver number) (carried_on n (brought n.wire x lucks (nodes.Store m)))) whole
+        (packet_carries n.wire (none_linked n.wire k.wire) number p at sent_as.packet sent_as.stands (nodes.Store m) tt here there lucks))
       where
         there : sent_as.packet.to ≡ nodes.Store m
         there = goes_there p part (nodes.Store m) tt here sent_as
@@ -167,9 +168,9 @@ module _ (n : Net) (k : IsKeptNet n) where
 
     -- to a client
     client_carries : (v : Wire) → IsLinked n.wire v → (c : ℕ) → p.to ≡ nodes.Client c
-        → Carries n (events.Deliver number) (carried_on n (brought v (record { from = p.from; to = p.to; part = part }) lucks (nodes.Client c)))
+        → Carries 0 n (events.Deliver number) (carried_on n (brought v (record { from = p.from; to = p.to; part = part }) lucks (nodes.Client c)))
     client_carries v before c here =
-        subst (λ (x : WireStep). Carries n (events.Deliver number) (carried_on n x)) same
+        subst (λ (x : WireStep). Carries 0 n (events.Deliver number) (carried_on n x)) same
         (packet_carries v before number p at sent_as.packet sent_as.stands (nodes.Client c) tt here there lucks)
       where
         there : sent_as.packet.to ≡ nodes.Client c
@@ -183,8 +184,8 @@ module _ (n : Net) (k : IsKeptNet n) where
             ∙ ap (λ (x : Node). brought v (record { from = p.from; to = x; part = part }) lucks (nodes.Client c)) (sym here)))
 
     taken_carries : (c : ℕ) → p.to ≡ nodes.Client c → is_client_down (client_at n.wire.world c) ≡ false → (o : Option Device) → device_at n c ≡ o
-        → Carries n (events.Deliver number) (client_taken n c (record { from = p.from; to = p.to; part = part }) lucks o)
-    taken_carries c here up None none = client_carries n.wire (none_linked n.wire k.wire) c here
+        → Carries 1 n (events.Deliver number) (client_taken n c (record { from = p.from; to = p.to; part = part }) lucks o)
+    taken_carries c here up None none = carries_more n (events.Deliver number) _ (client_carries n.wire (none_linked n.wire k.wire) c here)
     taken_carries c here up (Some d) some = then_carries n (events.Deliver number) (carried_on n s) first (cut_by c d (carried_on n s).net)
         (cut_net (carried_on n s).net first.kept c d (first.kept.devices c d some))
       where
@@ -194,7 +195,7 @@ module _ (n : Net) (k : IsKeptNet n) where
         s : WireStep
         s = brought (cutting c d.linked n.wire) (record { from = p.from; to = p.to; part = part }) lucks (nodes.Client c)
 
-        first : Carries n (events.Deliver number) (carried_on n s)
+        first : Carries 0 n (events.Deliver number) (carried_on n s)
         first = client_carries (cutting c d.linked n.wire) (cut_linked n.wire k.wire c d.linked (k.devices c d some) up) c here
 
   -- ---- deliveries of what is no part
@@ -203,17 +204,17 @@ module _ (n : Net) (k : IsKeptNet n) where
   no_parts : (v : Wire) (c : ℕ) (o : Option Device) → AreParts v (asks_again c o)
   no_parts v c o p a part is = no_part (part_of p.message) part (none_asked n c o p a) is
 
-  session_asked : (event : Event) (c : ℕ) (d : Device) (later : Net) → ((ls : List Line) → AreLone ls → IsLone event ls) → IsLinkedNet n later → Carries n event (asks_session later c d)
+  session_asked : (event : Event) (c : ℕ) (d : Device) (later : Net) → ((ls : List Line) → AreLone ls → IsLone event ls) → IsLinkedNet n later → Carries 1 n event (asks_session later c d)
   session_asked event c d later lone l = sends_alone n k event later (asks_again c (Some d)) lone l (no_parts later.wire c (Some d))
 
   module _ (number : ℕ) (lucks : Lucks) where
     abbrev deliver : Event
     deliver = events.Deliver number
 
-    done_alone : Carries n deliver (still n facts.Done)
+    done_alone : Carries 1 n deliver (still n facts.Done)
     done_alone = answers_alone n k deliver facts.Done (alone facts.Done tt)
 
-    answered_carries : (c : ℕ) (m : OperationResponse) (d : Device) → is_some (client_at n.wire.world c) ≡ true → Carries n deliver (answered n c m d)
+    answered_carries : (c : ℕ) (m : OperationResponse) (d : Device) → is_some (client_at n.wire.world c) ≡ true → Carries 1 n deliver (answered n c m d)
     answered_carries c m d there = go (m.status == 19) ((m.status == 0) && (m.answered == 1))
       where
         none : Device
@@ -222,42 +223,42 @@ module _ (n : Net) (k : IsKeptNet n) where
         some : Device
         some = record d { token = Some m.token }
 
-        go : (a b : Bool) → Carries n deliver (if a then asks_session (with_device c (record d { token = None }) n) c d
+        go : (a b : Bool) → Carries 1 n deliver (if a then asks_session (with_device c (record d { token = None }) n) c d
             else (if b then still (with_device c (record d { token = Some m.token }) n) facts.Done else still n facts.Done))
         go true b = session_asked deliver c d (with_device c none n) (λ ls are. are) (device_net n k c none there)
         go false true = stays_alone n k deliver (with_device c some n) facts.Done (alone facts.Done tt) (device_net n k c some there)
         go false false = done_alone
 
-    idle_carries : (o : Option (List ClientTask)) (x : NetStep) → Carries n deliver x → Carries n deliver (if_idle n lucks o x)
+    idle_carries : (o : Option (List ClientTask)) (x : NetStep) → Carries 1 n deliver x → Carries 1 n deliver (if_idle n lucks o x)
     idle_carries None x c = c
     idle_carries (Some []) x c = c
     idle_carries (Some (task ∷ tasks)) x c = answers_alone n k deliver (facts.Refuses (facts.Busy lucks.shape.plan)) (alone (facts.Refuses (facts.Busy lucks.shape.plan)) tt)
 
-    answer_carries : (c : ℕ) (m : OperationResponse) (o : Option Device) → device_at n c ≡ o → Carries n deliver (answer_taken n c m lucks o)
+    answer_carries : (c : ℕ) (m : OperationResponse) (o : Option Device) → device_at n c ≡ o → Carries 1 n deliver (answer_taken n c m lucks o)
     answer_carries c m None none = done_alone
     answer_carries c m (Some d) some = go d.linked
       where
-        go : (b : Bool) → Carries n deliver (if b then if_idle n lucks (agenda_in (client_at n.wire.world c)) (answered n c m d) else refused n facts.Offline)
+        go : (b : Bool) → Carries 1 n deliver (if b then if_idle n lucks (agenda_in (client_at n.wire.world c)) (answered n c m d) else refused n facts.Offline)
         go true = idle_carries (agenda_in (client_at n.wire.world c)) (answered n c m d) (answered_carries c m d (k.devices c d some))
         go false = answers_alone n k deliver (facts.Refuses facts.Offline) (alone (facts.Refuses facts.Offline) tt)
 
-    message_to_client : (c : ℕ) (p : Sent) (m : Message) → Carries n deliver (to_client n c (record p { message = m }) lucks None)
+    message_to_client : (c : ℕ) (p : Sent) (m : Message) → Carries 1 n deliver (to_client n c (record p { message = m }) lucks None)
     message_to_client c p (kinds.OperationResponse m) = answer_carries c m (device_at n c) refl
     message_to_client c p other = done_alone
 
-    restored_carries : (m : ℕ) (p : Sent) (r : RestoreClientSubscriptions) (o : Option ℕ) → Carries n deliver (restored n m p r o)
+    restored_carries : (m : ℕ) (p : Sent) (r : RestoreClientSubscriptions) (o : Option ℕ) → Carries 1 n deliver (restored n m p r o)
     restored_carries m p r None = go r.reply
       where
         none : AreParts n.wire (restoring m p r ∷ [])
         none q a part is = no_part (part_of q.message) part (⊎_elim (λ e. ap (λ (x : Sent). part_of x.message) (sym e)) (λ more. absurd (among_none q more)) (among_cons (restoring m p r) [] q a)) is
 
-        go : (b : Bool) → Carries n deliver (if b then still n facts.Done else sending n (restoring m p r ∷ []))
+        go : (b : Bool) → Carries 1 n deliver (if b then still n facts.Done else sending n (restoring m p r ∷ []))
         go true = done_alone
         go false = sends_alone n k deliver n (restoring m p r ∷ []) (λ ls are. are) (itself n k) none
     restored_carries m p r (Some table) =
         let busy : Answer = facts.Refuses (facts.Busy (busy_with (hosted_at n.wire.world table))) in answers_alone n k deliver busy (alone busy tt)
 
-    message_to_store : (m : ℕ) (p : Sent) (msg : Message) → Carries n deliver (to_store n m (record p { message = msg }) lucks None)
+    message_to_store : (m : ℕ) (p : Sent) (msg : Message) → Carries 1 n deliver (to_store n m (record p { message = msg }) lucks None)
     message_to_store m p (kinds.RestoreClientSubscriptions r) = restored_carries m p r (busy_table n.wire.world m)
     message_to_store m p other = done_alone
 
@@ -280,17 +281,17 @@ module _ (n : Net) (k : IsKeptNet n) where
             }
 
     running_carries : (g starts : ℕ) (p : Sent) → Among n.sent p → (running : Running)
-        → Carries n deliver (gate_done n g starts (gate.taken (directory_of n.wire.world) g starts running p.from p.message))
+        → Carries 1 n deliver (gate_done n g starts (gate.taken (directory_of n.wire.world) g starts running p.from p.message))
     running_carries g starts p a running =
         let d : gate.Done = gate.taken (directory_of n.wire.world) g starts running p.from p.message in
         sends_alone n k deliver (with_running g starts d.running n) (map (sent_of g) d.sends) (λ ls are. are) (gates_linked n (with_running g starts d.running n).gates k)
         (handed_sent g p a d.sends (handed_on n.wire.world g starts running p.from p.message))
 
-    gate_carries : (g : ℕ) (p : Sent) → Among n.sent p → (o : Option Gateway) → Carries n deliver (to_gate n g p o)
+    gate_carries : (g : ℕ) (p : Sent) → Among n.sent p → (o : Option Gateway) → Carries 1 n deliver (to_gate n g p o)
     gate_carries g p a None = done_alone
     gate_carries g p a (Some gateway) = go gateway.running
       where
-        go : (o : Option Running) → Carries n deliver (to_gate n g p (Some (record gateway { running = o })))
+        go : (o : Option Running) → Carries 1 n deliver (to_gate n g p (Some (record gateway { running = o })))
         go None = done_alone
         go (Some running) = running_carries g gateway.starts p a running
 
@@ -299,57 +300,57 @@ module _ (n : Net) (k : IsKeptNet n) where
     down_lone : (node : Node) → AreLone (AnswerLine (facts.Refuses (facts.NodeDown node)) ∷ [])
     down_lone node = alone (facts.Refuses (facts.NodeDown node)) tt
 
-    node_carries : (p : Sent) → slice_get n.sent number ≡ Some p → (to : Node) → p.to ≡ to → Carries n deliver (delivered_to n p lucks to)
+    node_carries : (p : Sent) → slice_get n.sent number ≡ Some p → (to : Node) → p.to ≡ to → Carries 1 n deliver (delivered_to n p lucks to)
     node_carries p at (nodes.Store m) here = unless_node_down n k deliver (nodes.Store m) (to_store n m p lucks (part_of p.message)) (down_lone (nodes.Store m)) (λ up. go (part_of p.message) refl)
       where
-        go : (o : Option Part) → part_of p.message ≡ o → Carries n deliver (to_store n m p lucks o)
+        go : (o : Option Part) → part_of p.message ≡ o → Carries 1 n deliver (to_store n m p lucks o)
         go None is = message_to_store m p p.message
         go (Some part) is = store_carries number p at part is lucks m here
     node_carries p at (nodes.Client c) here = unless_node_down n k deliver (nodes.Client c) (to_client n c p lucks (part_of p.message)) (down_lone (nodes.Client c))
         (λ up. go up (part_of p.message) refl)
       where
-        go : is_node_down n (nodes.Client c) ≡ false → (o : Option Part) → part_of p.message ≡ o → Carries n deliver (to_client n c p lucks o)
+        go : is_node_down n (nodes.Client c) ≡ false → (o : Option Part) → part_of p.message ≡ o → Carries 1 n deliver (to_client n c p lucks o)
         go up None is = message_to_client c p p.message
         go up (Some part) is = taken_carries number p at part is lucks c here up (device_at n c) refl
     node_carries p at (nodes.Gate g) here =
         unless_node_down n k deliver (nodes.Gate g) (to_gate n g p (gate_at n g)) (down_lone (nodes.Gate g)) (λ up. gate_carries g p (among_get n.sent number p at) (gate_at n g))
 
-    deliver_carries : (o : Option Sent) → slice_get n.sent number ≡ o → Carries n deliver (net.delivered n lucks o)
+    deliver_carries : (o : Option Sent) → slice_get n.sent number ≡ o → Carries 1 n deliver (net.delivered n lucks o)
     deliver_carries None at = let none : Answer = facts.Refuses (facts.NoPacket (length n.sent)) in answers_alone n k deliver none (alone none tt)
     deliver_carries (Some p) at = node_carries p at p.to refl
 
   -- ---- the wire's own events
 
   own_event : (event : Event) → is_declaration event ≡ false → IsBuilt event → (lucks : Lucks) → IsEventCarried (to_of n.sent) (wires_to n.wire.packets) event event
-      → Carries n event (carried_on n (wire_step n.wire event lucks))
+      → Carries 0 n event (carried_on n (wire_step n.wire event lucks))
   own_event event plain built lucks carried =
       let s : KeepsWire n.wire (wire_step n.wire event lucks).wire = step_keeps n.wire k.wire event plain built lucks in
       shares n k n.wire (none_linked n.wire k.wire) event event lucks built carried s.kept s.clients
 
   -- ---- links
 
-  relinked_carries : (c : ℕ) (up : Bool) (d : Device) → is_some (client_at n.wire.world c) ≡ true → Carries n (events.Link c up) (relinked n c up d)
+  relinked_carries : (c : ℕ) (up : Bool) (d : Device) → is_some (client_at n.wire.world c) ≡ true → Carries 1 n (events.Link c up) (relinked n c up d)
   relinked_carries c true d there = go d.linked
     where
       up : Device
       up = record d { linked = true }
 
-      go : (b : Bool) → Carries n (events.Link c true) (if b then still n facts.Done else asks_session (with_device c up n) c up)
+      go : (b : Bool) → Carries 1 n (events.Link c true) (if b then still n facts.Done else asks_session (with_device c up n) c up)
       go true = answers_alone n k (events.Link c true) facts.Done (alone facts.Done tt)
       go false = session_asked (events.Link c true) c up (with_device c up n) (λ ls are. are) (device_net n k c up there)
   relinked_carries c false d there =
       let down : Device = record d { linked = false } in
       stays_alone n k (events.Link c false) (with_device c down n) facts.Done (alone facts.Done tt) (device_net n k c down there)
 
-  linked_carries : (c : ℕ) (up : Bool) (lucks : Lucks) (o : Option Device) → device_at n c ≡ o → Carries n (events.Link c up) (linked n c up lucks o)
-  linked_carries c up lucks None none = own_event (events.Link c up) refl tt lucks refl
+  linked_carries : (c : ℕ) (up : Bool) (lucks : Lucks) (o : Option Device) → device_at n c ≡ o → Carries 1 n (events.Link c up) (linked n c up lucks o)
+  linked_carries c up lucks None none = carries_more n (events.Link c up) _ (own_event (events.Link c up) refl tt lucks refl)
   linked_carries c up lucks (Some d) some =
       unless_node_down n k (events.Link c up) (nodes.Client c) (relinked n c up d) (alone (facts.Refuses (facts.NodeDown (nodes.Client c))) tt)
       (λ is_up. relinked_carries c up d (k.devices c d some))
 
   -- ---- a client that starts
 
-  started_carries : (c : ℕ) (lucks : Lucks) → Carries n (events.Start (nodes.Client c)) (client_started n c lucks)
+  started_carries : (c : ℕ) (lucks : Lucks) → Carries 1 n (events.Start (nodes.Client c)) (client_started n c lucks)
   started_carries c lucks = go (is_client_down (client_at n.wire.world c))
     where
       start : Event
@@ -358,45 +359,46 @@ module _ (n : Net) (k : IsKeptNet n) where
       s : NetStep
       s = carried_on n (wire_step n.wire start lucks)
 
-      first : Carries n start s
+      first : Carries 0 n start s
       first = own_event start refl tt lucks refl
 
       later : (o : Option Device) → device_at n c ≡ o → IsLinkedNet s.net (restarted c o s.net)
       later None none = itself s.net first.kept
       later (Some d) some = device_net s.net first.kept c (record d { token = None }) (first.kept.devices c d some)
 
-      go : (b : Bool) → Carries n start (if b then record s { net = restarted c (device_at n c) s.net } else s)
+      go : (b : Bool) → Carries 1 n start (if b then record s { net = restarted c (device_at n c) s.net } else s)
       go true = then_carries n start s first (restarted c (device_at n c) s.net) (later (device_at n c) refl)
-      go false = first
+      go false = carries_more n start s first
 
   -- ---- what is done to a gateway
 
-  crashed_carries : (g calls pick : ℕ) (o : Option Gateway) → Carries n (events.Crash (nodes.Gate g) calls pick) (gate_crashed n g o)
+  crashed_carries : (g calls pick : ℕ) (o : Option Gateway) → Carries 1 n (events.Crash (nodes.Gate g) calls pick) (gate_crashed n g o)
   crashed_carries g calls pick None = answers_alone n k (events.Crash (nodes.Gate g) calls pick) facts.Done (inl refl)
   crashed_carries g calls pick (Some gateway) = stays_alone n k (events.Crash (nodes.Gate g) calls pick) _ facts.Done (inl refl) (gates_linked n _ k)
 
-  gate_starts : (g : ℕ) (o : Option Gateway) → Carries n (events.Start (nodes.Gate g)) (gate_started n g o)
+  gate_starts : (g : ℕ) (o : Option Gateway) → Carries 1 n (events.Start (nodes.Gate g)) (gate_started n g o)
   gate_starts g None = answers_alone n k (events.Start (nodes.Gate g)) facts.Done refl
   gate_starts g (Some gateway) = go (has_none gateway.running)
     where
       later : Net
       later = record n { gates = insert_entry nat_cmp n.gates g (gate.started gateway (gateway.starts + 1)) }
 
-      go : (b : Bool) → Carries n (events.Start (nodes.Gate g)) (if b then still later facts.Done else still n facts.Done)
+      go : (b : Bool) → Carries 1 n (events.Start (nodes.Gate g)) (if b then still later facts.Done else still n facts.Done)
       go true = stays_alone n k (events.Start (nodes.Gate g)) later facts.Done refl (gates_linked n later.gates k)
       go false = answers_alone n k (events.Start (nodes.Gate g)) facts.Done refl
 
   -- ---- every event that declares nothing
 
-  pub carries : (event : Event) → is_declaration event ≡ false → IsBuilt event → (lucks : Lucks) → Carries n event (net_step_of n event lucks)
+  pub carries : (event : Event) → is_declaration event ≡ false → IsBuilt event → (lucks : Lucks) → Carries 1 n event (net_step n event lucks)
+  carries (events.Gate number) plain built lucks = absurd (true≢false plain)
   carries (events.Client c gate tables) plain built lucks = absurd (true≢false plain)
   carries (events.Deliver number) plain built lucks = deliver_carries number lucks (slice_get n.sent number) refl
   carries (events.Link c up) plain built lucks = linked_carries c up lucks (device_at n c) refl
   carries (events.Start (nodes.Client c)) plain built lucks = started_carries c lucks
   carries (events.Hold (nodes.Gate g)) plain built lucks =
-      unless_node_down n k (events.Hold (nodes.Gate g)) (nodes.Gate g) _ refl (λ up. own_event (events.Hold (nodes.Gate g)) refl tt lucks refl)
+      unless_node_down n k (events.Hold (nodes.Gate g)) (nodes.Gate g) _ refl (λ up. carries_more n (events.Hold (nodes.Gate g)) _ (own_event (events.Hold (nodes.Gate g)) refl tt lucks refl))
   carries (events.Free (nodes.Gate g)) plain built lucks =
-      unless_node_down n k (events.Free (nodes.Gate g)) (nodes.Gate g) _ refl (λ up. own_event (events.Free (nodes.Gate g)) refl tt lucks refl)
+      unless_node_down n k (events.Free (nodes.Gate g)) (nodes.Gate g) _ refl (λ up. carries_more n (events.Free (nodes.Gate g)) _ (own_event (events.Free (nodes.Gate g)) refl tt lucks refl))
   carries (events.Work (nodes.Gate g)) plain built lucks =
       unless_node_down n k (events.Work (nodes.Gate g)) (nodes.Gate g) _ (inr refl) (λ up. answers_alone n k (events.Work (nodes.Gate g)) (facts.Did steps.Idle) (inl refl))
   carries (events.WorkAll (nodes.Gate g)) plain built lucks =
@@ -404,4 +406,4 @@ module _ (n : Net) (k : IsKeptNet n) where
   carries (events.Crash (nodes.Gate g) calls pick) plain built lucks =
       unless_node_down n k (events.Crash (nodes.Gate g) calls pick) (nodes.Gate g) _ (inr refl) (λ up. crashed_carries g calls pick (gate_at n g))
   carries (events.Start (nodes.Gate g)) plain built lucks = gate_starts g (gate_at n g)
-  carries other plain built lucks = own_event other plain built lucks refl
+  carries other plain built lucks = carries_more n other _ (own_event other plain built lucks refl)

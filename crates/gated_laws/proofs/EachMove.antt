@@ -343,6 +343,7 @@ module _ (P : World → Type 0) (beside : (w : World) (holds downs cuts : List N
 
     pub step_keeps : (event : Event) → is_declaration event ≡ false → (lucks : Lucks) → P (step w event lucks).world
     step_keeps (events.Store number) plain lucks = absurd (true≢false plain)
+    step_keeps (events.Gate number) plain lucks = absurd (true≢false plain)
     step_keeps (events.Table table schema) plain lucks = absurd (true≢false plain)
     step_keeps (events.Client c gate tables) plain lucks = absurd (true≢false plain)
     step_keeps (events.Write c table row x) plain lucks = calls w c (client.Write table row x) lucks.shape lucks.calls p

@@ -27,7 +27,7 @@ use Rattle.gate_tables.specs.Gate.{from_client}
 use Rattle.gate_tables.specs.Gate.{client_of, to_client, restore, notices, changed, from_store, taken, quiet, notify}
 use Rattle.gate_tables.specs.Gate as gate
 use Rattle.gated_tables.specs.Devices.{stamped}
-use Rattle.gated_tables.specs.Net.{place_of, directory_of}
+use Rattle.gated_tables.specs.Net.{place_of, places_in, directory_of}
 
 -- ---- a part and its message
 
@@ -130,6 +130,10 @@ module _ (w : World) where
       go rest true is here = let same : (place_of w e).1 ≡ place = cc in ap (λ (p : Placed). p.owner) (sym same) ∙ ap (owner_of w) (sym (at_same table e.0 is))
       go rest false is there = rest there
 
+  places_owner : (stores : List ℕ) (table : ℕ) (place : Placed) → lookup (is_at (nat_cmp table)) (places_in w stores) ≡ Some place → place.owner ≡ owner_of w table
+  places_owner [] table place at = absurd cc
+  places_owner (store ∷ stores) table place at = placed_owner w.schemas table place at
+
   module _ (number starts : ℕ) (running : Running) where
     abbrev directory : Directory
     directory = directory_of w
@@ -160,7 +164,7 @@ module _ (w : World) where
           goes part part_is =
               let here : part_of m ≡ Some part = sym same ∙ part_is in (
                 here,
-                ap (λ (n : ℕ). nodes.Store n) (placed_owner w.schemas a.table place at)
+                ap (λ (n : ℕ). nodes.Store n) (places_owner w.stores a.table place at)
                     ∙ (ap (λ (o : Option Asked). nodes.Store (owner_of w (table_asked o))) (sym is)
                     ∙ (sym (asked_way (owner_of w) m (ap (λ (o : Option Asked). is_some o) is) (ap (λ (o : Option Part). is_some o) here))
                     ∙ ap (way_in (owner_of w)) here)),

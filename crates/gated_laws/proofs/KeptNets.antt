@@ -1,6 +1,6 @@
 -- What a net keeps beside its wire: each client that has a gateway is there, and each message that is a part was sent on
 -- the wire, on its way.
-use Rattle.std.proofs.Common.{◌≡◌, ◌⊎◌, inl, inr, ⊎_elim, ℕ, Bool, true, false, List, [], ◌∷◌, ◌++◌, length, Option, Some, None, refl, sym, ◌∙◌, ap, subst, append-nil}
+use Rattle.std.proofs.Common.{◌≡◌, ◌⊎◌, inl, inr, ⊎_elim, ℕ, Bool, true, false, List, [], ◌∷◌, ◌++◌, length, Option, Some, None, refl, sym, ◌∙◌, ap, subst, append-nil, ◌≤◌, arith}
 use Rattle.std.specs.Prelude.{map, is_some, if◌then◌else◌}
 use Rattle.std.specs.List.{flat_map}
 use Rattle.std.specs.Ordering.{nat_cmp}
@@ -14,6 +14,7 @@ use Rattle.step_tables.specs.Facts as facts
 use Rattle.step_tables.specs.Members.{Among}
 use Rattle.step_tables.proofs.Lists.{among_none, among_cons, among_left, among_either, among_right, among_mapped}
 use Rattle.world_tables.specs.Quiet.{sent_in}
+use Rattle.world_tables.specs.Turns.{Happening}
 use Rattle.world_tables.specs.World.{Lucks, client_at, is_client_down}
 use Rattle.fair_laws.specs.Reached.{IsBuilt}
 use Rattle.fair_laws.proofs.Hosting.{all_after}
@@ -25,7 +26,7 @@ use Rattle.wire_laws.proofs.Places.{flat_member, member_flat}
 use Rattle.gated_tables.specs.Devices.{Device, is_online, or_zero}
 use Rattle.gated_tables.specs.Net.{Sent, Net, NetStep, NetOutbox, device_at, lines_of, still, refused, unless_down, is_node_down, sending, cutting, cut_by, with_device, sent_by, sent_to}
 use Rattle.gated_tables.specs.Net.{routed_to, routed_from, routed}
-use Rattle.gated_tables.specs.Net.{asks_again, asks_by, out_of, carried_on}
+use Rattle.gated_tables.specs.Net.{asks_again, asks_by, asks_in, asking_out, out_of, outs_of, carried_on}
 use Rattle.gated_laws.specs.Carried.{AreLone, IsLone, IsEventCarried, AreLinesCarried}
 use Rattle.gated_laws.proofs.Addressed.{ClientsStay}
 use Rattle.gated_laws.proofs.Remembered.{shaped}
@@ -108,21 +109,31 @@ module _ (n : Net) where
 
   out_parts : (out : PartOutbox) (p : Sent) → Among (out_of n out).sent p → (part : Part) → part_of p.message ≡ Some part
       → (packet : PartPacket) × Among out.packets packet × (packet.part ≡ part) × ((p.to ≡ packet.to) ⊎ IsGate p.to)
-  out_parts out p a part is = ⊎_elim
-      (λ b.
-      let r = among_mapped (routed n) out.packets p b in
+  out_parts out p a part is =
+      let r = among_mapped (routed n) out.packets p a in
       let routed_is : IsRouted r.0 p = subst (IsRouted r.0) r.2 (is_routed r.0) in
-      (r.0, r.1, (let both : Some r.0.part ≡ Some part = sym routed_is.0 ∙ is in cc), routed_is.1))
-      (λ b. let r = flat_member (asks_by n) out.facts p b in no_part (part_of p.message) part (none_by r.0 p r.2) is)
-      (among_either (map (routed n) out.packets) (flat_map (asks_by n) out.facts) p a)
+      (r.0, r.1, (let both : Some r.0.part ≡ Some part = sym routed_is.0 ∙ is in cc), routed_is.1)
 
-  outs_parts : (outs : List PartOutbox) (p : Sent) → Among (lines.sent_by (map (out_of n) outs)) p → (part : Part) → part_of p.message ≡ Some part
+  none_in : (outs : List PartOutbox) (p : Sent) → Among (asks_in n outs) p → part_of p.message ≡ None
+  none_in outs p a =
+      let o = flat_member (λ (out : PartOutbox). flat_map (asks_by n) out.facts) outs p a in
+      let fact = flat_member (asks_by n) o.0.facts p o.2 in
+      none_by fact.0 p fact.2
+
+  outs_parts : (outs : List PartOutbox) (p : Sent) → Among (lines.sent_by (outs_of n outs)) p → (part : Part) → part_of p.message ≡ Some part
       → (packet : PartPacket) × Among (packets_by outs) packet × (packet.part ≡ part) × ((p.to ≡ packet.to) ⊎ IsGate p.to)
   outs_parts outs p a part is =
-      let o = flat_member (λ (out : NetOutbox). out.sent) (map (out_of n) outs) p a in
-      let r = among_mapped (out_of n) outs o.0 o.1 in
+      let o = flat_member (λ (out : NetOutbox). out.sent) (outs_of n outs) p a in
+      ⊎_elim
+      (λ b.
+      let r = among_mapped (out_of n) outs o.0 b in
       let x = out_parts r.0 p (subst (λ (out : NetOutbox). Among out.sent p) (sym r.2) o.2) part is in
-      (x.0, member_flat (λ (out : PartOutbox). out.packets) outs r.0 x.0 r.1 x.1, x.2, x.3)
+      (x.0, member_flat (λ (out : PartOutbox). out.packets) outs r.0 x.0 r.1 x.1, x.2, x.3))
+      (λ b. ⊎_elim
+      (λ e. no_part (part_of p.message) part (none_in outs p (subst (λ (out : NetOutbox). Among out.sent p) (sym e) o.2)) is)
+      (λ more. absurd (among_none o.0 more))
+      (among_cons (asking_out n outs) [] o.0 b))
+      (among_either (map (out_of n) outs) (asking_out n outs ∷ []) o.0 o.1)
 
 -- ---- a net whose sessions, links or gateways alone are other ones
 
@@ -166,8 +177,8 @@ device_net n k c d there = record { linked = l.linked; kept = l.kept; sent = l.s
 
 -- ---- what an event carries of the wire
 
--- an event of the wire
-pub record IsShared (n : Net) (event : Event) (x : NetStep) (v : Wire) : Type 0 where
+-- an event of the wire, and so many links behind it
+pub record IsShared (most : ℕ) (n : Net) (event : Event) (x : NetStep) (v : Wire) : Type 0 where
   pub other : Event
   pub lucks : Lucks
   pub built : IsBuilt other
@@ -175,27 +186,51 @@ pub record IsShared (n : Net) (event : Event) (x : NetStep) (v : Wire) : Type 0 
   pub lines : AreLinesCarried (lines_of n x) (wires.lines_of v (wire_step v other lucks))
   pub packets : wires_to (wire_step v other lucks).wire.packets ≡ wires_to v.packets ++ sent_in (wires.lines_of v (wire_step v other lucks))
   pub behind : IsLinked (wire_step v other lucks).wire x.net.wire
+  pub few : length behind.run ≤ most
 
 -- or none
-pub record IsAlone (n : Net) (event : Event) (x : NetStep) (v : Wire) : Type 0 where
+pub record IsAlone (most : ℕ) (n : Net) (event : Event) (x : NetStep) (v : Wire) : Type 0 where
   pub lone : IsLone event (lines_of n x)
   pub behind : IsLinked v x.net.wire
+  pub few : length behind.run ≤ most
 
 -- between links
-pub record Carries (n : Net) (event : Event) (x : NetStep) : Type 0 where
+pub record Carries (most : ℕ) (n : Net) (event : Event) (x : NetStep) : Type 0 where
   pub v : Wire
   pub before : IsLinked n.wire v
-  pub middle : IsAlone n event x v ⊎ IsShared n event x v
+  pub middle : IsAlone most n event x v ⊎ IsShared most n event x v
   pub sent : to_of x.net.sent ≡ to_of n.sent ++ sent_in (lines_of n x)
   pub kept : IsKeptNet x.net
 
--- with more links behind it
-pub then_carries : (n : Net) (event : Event) (x : NetStep) → Carries n event x → (net : Net) → IsLinkedNet x.net net → Carries n event (record x { net = net })
+-- with a link behind it
+pub then_carries : (n : Net) (event : Event) (x : NetStep) → Carries 0 n event x → (net : Net) → IsLinkedNet x.net net → Carries 1 n event (record x { net = net })
 then_carries n event x c net l = record {
   v = c.v;
   before = c.before;
   middle = ⊎_elim
-      (λ a. inl (record { lone = a.lone; behind = then_linked c.v x.net.wire net.wire a.behind l.linked }))
+      (λ a. let behind : IsLinked c.v net.wire = then_linked c.v x.net.wire net.wire a.behind a.few l.linked in inl (record { lone = a.lone; behind = behind; few = behind.few }))
+      (λ a.
+      let behind : IsLinked (wire_step c.v a.other a.lucks).wire net.wire = then_linked (wire_step c.v a.other a.lucks).wire x.net.wire net.wire a.behind a.few l.linked in
+      inr (record {
+        other = a.other;
+        lucks = a.lucks;
+        built = a.built;
+        carried = a.carried;
+        lines = a.lines;
+        packets = a.packets;
+        behind = behind;
+        few = behind.few;
+      })) c.middle;
+  sent = ap to_of l.sent ∙ c.sent;
+  kept = l.kept;
+}
+
+-- that may be none
+pub carries_more : (n : Net) (event : Event) (x : NetStep) → Carries 0 n event x → Carries 1 n event x
+carries_more n event x c = record {
+  v = c.v;
+  before = c.before;
+  middle = ⊎_elim (λ a. inl (record { lone = a.lone; behind = a.behind; few = a.behind.few }))
       (λ a. inr (record {
         other = a.other;
         lucks = a.lucks;
@@ -203,17 +238,18 @@ then_carries n event x c net l = record {
         carried = a.carried;
         lines = a.lines;
         packets = a.packets;
-        behind = then_linked (wire_step c.v a.other a.lucks).wire x.net.wire net.wire a.behind l.linked;
+        behind = a.behind;
+        few = a.behind.few;
       })) c.middle;
-  sent = ap to_of l.sent ∙ c.sent;
-  kept = l.kept;
+  sent = c.sent;
+  kept = c.kept;
 }
 
 module _ (n : Net) (k : IsKeptNet n) where
   -- ---- an event of the wire
 
   pub shares : (v : Wire) → IsLinked n.wire v → (event other : Event) (lucks : Lucks) → IsBuilt other → IsEventCarried (to_of n.sent) (wires_to v.packets) event other
-      → IsKeptWire (wire_step v other lucks).wire → ClientsStay v.world (wire_step v other lucks).wire.world → Carries n event (carried_on n (wire_step v other lucks))
+      → IsKeptWire (wire_step v other lucks).wire → ClientsStay v.world (wire_step v other lucks).wire.world → Carries 0 n event (carried_on n (wire_step v other lucks))
   shares v before event other lucks built carried kept stay = record {
     v = v;
     before = before;
@@ -225,6 +261,7 @@ module _ (n : Net) (k : IsKeptNet n) where
       lines = lines_carried n n v s;
       packets = ap wires_to packets ∙ (map-append (λ (p : PartPacket). p.to) v.packets (packets_by s.outs) ∙ ap (λ (ns : List Node). wires_to v.packets ++ ns) (sym (wire_sends v s plain)));
       behind = none_linked s.wire kept;
+      few = none_few;
     });
     sent = map-append (λ (p : Sent). p.to) n.sent (lines.sent_by (carried_on n s).outs) ∙ ap (λ (ns : List Node). to_of n.sent ++ ns) (sym (carried_sends n n s plain));
     kept = record {
@@ -248,16 +285,19 @@ module _ (n : Net) (k : IsKeptNet n) where
       packets : (wire_step v other lucks).wire.packets ≡ v.packets ++ packets_by (wire_step v other lucks).outs
       packets = (shaped v before.kept.remembered other lucks).packets
 
+      none_few : length {A = Happening} [] ≤ 0
+      none_few = omega arith
+
       plain : lines.IsPlainWireStep (wire_step v other lucks)
       plain = plain_step v before.kept other lucks
 
   -- ---- none
 
-  pub stays_alone : (event : Event) (later : Net) (answer : Answer) → IsLone event (AnswerLine answer ∷ []) → IsLinkedNet n later → Carries n event (still later answer)
+  pub stays_alone : (event : Event) (later : Net) (answer : Answer) → IsLone event (AnswerLine answer ∷ []) → IsLinkedNet n later → Carries 1 n event (still later answer)
   stays_alone event later answer lone l = record {
     v = n.wire;
     before = none_linked n.wire k.wire;
-    middle = inl (record { lone = lone; behind = l.linked });
+    middle = inl (record { lone = lone; behind = l.linked; few = l.linked.few });
     sent = ap to_of l.sent ∙ sym (append-nil (to_of n.sent));
     kept = l.kept;
   }
@@ -265,20 +305,20 @@ module _ (n : Net) (k : IsKeptNet n) where
   pub itself : IsLinkedNet n n
   itself = record { linked = none_linked n.wire k.wire; kept = k; sent = refl }
 
-  pub answers_alone : (event : Event) (answer : Answer) → IsLone event (AnswerLine answer ∷ []) → Carries n event (still n answer)
+  pub answers_alone : (event : Event) (answer : Answer) → IsLone event (AnswerLine answer ∷ []) → Carries 1 n event (still n answer)
   answers_alone event answer lone = stays_alone event n answer lone itself
 
-  pub unless_node_down : (event : Event) (node : Node) (x : NetStep) → IsLone event (AnswerLine (facts.Refuses (facts.NodeDown node)) ∷ []) → (is_node_down n node ≡ false → Carries n event x)
-      → Carries n event (unless_down n node x)
+  pub unless_node_down : (event : Event) (node : Node) (x : NetStep) → IsLone event (AnswerLine (facts.Refuses (facts.NodeDown node)) ∷ []) → (is_node_down n node ≡ false → Carries 1 n event x)
+      → Carries 1 n event (unless_down n node x)
   unless_node_down event node x lone up = go (is_node_down n node) refl
     where
-      go : (b : Bool) → is_node_down n node ≡ b → Carries n event (if b then refused n (facts.NodeDown node) else x)
+      go : (b : Bool) → is_node_down n node ≡ b → Carries 1 n event (if b then refused n (facts.NodeDown node) else x)
       go true is = answers_alone event (facts.Refuses (facts.NodeDown node)) lone
       go false is = up is
 
   -- and messages behind it
   pub sends_alone : (event : Event) (later : Net) (sent : List Sent) → ((ls : List Line) → AreLone ls → IsLone event ls) → IsLinkedNet n later → AreParts later.wire sent
-      → Carries n event (sending later sent)
+      → Carries 1 n event (sending later sent)
   sends_alone event later sent lone l parts = record {
     v = n.wire;
     before = none_linked n.wire k.wire;
@@ -291,6 +331,7 @@ module _ (n : Net) (k : IsKeptNet n) where
         lines_are = sending_lines n later sent;
       });
       behind = l.linked;
+      few = l.linked.few;
     });
     sent = map-append (λ (p : Sent). p.to) later.sent sent ∙ (ap (λ (ps : List Sent). to_of ps ++ to_of sent) l.sent ∙ ap (λ (ns : List Node). to_of n.sent ++ ns) (sym (sending_sends n later sent)));
     kept = record {

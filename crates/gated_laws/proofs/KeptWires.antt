@@ -1,5 +1,5 @@
 -- What every wire keeps that built events lead to: what is in memory is of nodes that are up, and each part goes its way.
-use Rattle.std.proofs.Common.{◌≡◌, inl, inr, ⊎_elim, ℕ, Bool, true, false, List, [], ◌∷◌, ◌++◌, Option, Some, None, refl, sym, ◌∙◌, ap, subst, append-nil, true≢false}
+use Rattle.std.proofs.Common.{◌≡◌, inl, inr, ⊎_elim, ℕ, Bool, true, false, List, [], ◌∷◌, ◌++◌, Option, Some, None, refl, sym, ◌∙◌, ap, subst, append-nil, true≢false, length, ◌≤◌, arith, length-append}
 use Rattle.std.specs.Prelude.{map, is_some}
 use Rattle.std.specs.List.{AllByRecursion}
 use Rattle.stab_base.specs.declared.node.Node.{Node}
@@ -146,13 +146,20 @@ plain_outs : (w : World) (outs : List Outbox) → ArePlainOuts outs → AllByRec
 plain_outs w [] p = tt
 plain_outs w (out ∷ outs) p = (p.0, plain_outs w outs p.1)
 
-pub plain_step : (v : Wire) → IsKeptWire v → (event : Event) (lucks : Lucks) → IsPlainWireStep (wire_step v event lucks)
-plain_step v k event lucks = ⊎_elim
+plain_going : (v : Wire) → IsGoing v → (event : Event) (lucks : Lucks) → IsPlainWireStep (wire_step v event lucks)
+plain_going v g event lucks = ⊎_elim
     (λ s. subst IsPlainWireStep (sym s.is) (record { facts = tt; counted = λ rest. refl }))
     (λ s.
-    let stepped = step_stepped v.world s.other s.lucks (going_ground v (going v k)).fine in
+    let stepped = step_stepped v.world s.other s.lucks (going_ground v g).fine in
     subst IsPlainWireStep (sym s.is) (record { facts = plain_outs v.world (step v.world s.other s.lucks).outs stepped.plain; counted = stepped.counted }))
-    (comes v k event lucks)
+    (all_come v (going_ground v g) g.kept event lucks)
+
+pub plain_step : (v : Wire) → IsKeptWire v → (event : Event) (lucks : Lucks) → IsPlainWireStep (wire_step v event lucks)
+plain_step v k event lucks = plain_going v (going v k) event lucks
+
+-- on any wire that built events lead to
+pub plain_on : (v : Wire) (run : List Happening) → AreBuilt run → v ≡ wire_from start run → (event : Event) (lucks : Lucks) → IsPlainWireStep (wire_step v event lucks)
+plain_on v run built is event lucks = plain_going v (subst IsGoing (sym is) (run_goes run built)) event lucks
 
 -- with each client that there was
 pub record KeepsWire (v later : Wire) : Type 0 where
@@ -206,15 +213,17 @@ declares_wire v k none whole event is built lucks = go event is built (event_dec
 
     go : (e : Event) → is_declaration e ≡ true → IsBuilt e → IsDeclared v.world (step v.world e lucks).world → IsDeclaredWire v (wire_step v e lucks).wire
     go (events.Store number) d b w = of (events.Store number) b w (append-nil v.packets ∙ none)
+    go (events.Gate number) d b w = of (events.Gate number) b w (append-nil v.packets ∙ none)
     go (events.Table table schema) d b w = of (events.Table table schema) b w (append-nil v.packets ∙ none)
     go (events.Client c gate tables) d b w = of (events.Client c gate tables) b w (append-nil v.packets ∙ none)
     go other d b w = absurd (true≢false (sym d))
 
 -- ---- links
 
--- some links go up or down, and nothing else comes of it
+-- at most one link goes up or down, and nothing else comes of it
 pub record IsLinked (v later : Wire) : Type 0 where
   pub run : List Happening
+  pub few : length run ≤ 1
   pub built : AreBuilt run
   pub is : wire_from v run ≡ later
   pub turns : AreLinkTurns (turns_from v run)
@@ -223,16 +232,17 @@ pub record IsLinked (v later : Wire) : Type 0 where
   pub kept : IsKeptWire later
   pub clients : ClientsStay v.world later.world
 
-pub none_linked : (v : Wire) → IsKeptWire v → IsLinked v v
-none_linked v k = record { run = []; built = tt; is = refl; turns = tt; packets = refl; whole = refl; kept = k; clients = λ c there. there }
+abbrev pub none_linked : (v : Wire) → IsKeptWire v → IsLinked v v
+none_linked v k = record { run = []; few = omega arith; built = tt; is = refl; turns = tt; packets = refl; whole = refl; kept = k; clients = λ c there. there }
 
 pub link_turns_join : (xs ys : List Turn) → AreLinkTurns xs → AreLinkTurns ys → AreLinkTurns (xs ++ ys)
 link_turns_join [] ys a b = b
 link_turns_join (x ∷ xs) ys a b = (a.0, link_turns_join xs ys a.1 b)
 
-pub then_linked : (u v w : Wire) → IsLinked u v → IsLinked v w → IsLinked u w
-then_linked u v w a b = record {
+pub then_linked : (u v w : Wire) (a : IsLinked u v) → length a.run ≤ 0 → IsLinked v w → IsLinked u w
+then_linked u v w a none b = record {
   run = a.run ++ b.run;
+  few = let longer = length-append a.run b.run in let few = b.few in omega (arith, longer, none, few);
   built = built_join a.run b.run a.built b.built;
   is = from_join u a.run b.run ∙ (ap (λ (x : Wire). wire_from x b.run) a.is ∙ b.is);
   turns = subst AreLinkTurns (sym (turns_join u a.run b.run)) (link_turns_join (turns_from u a.run) (turns_from (wire_from u a.run) b.run) a.turns
@@ -254,6 +264,7 @@ cut_linked v k c up there is_up = go (client_at v.world c) refl
     go None at = absurd (let e : false ≡ true = ap (λ (o : Option Client). is_some o) (sym at) ∙ there in cc)
     go (Some node) at = record {
       run = link ∷ [];
+      few = omega arith;
       built = (tt, tt);
       is = ap (λ (x : WireStep). x.wire) alone;
       turns = ((c, up, ap (λ (x : WireStep). record { event = events.Link c up; lines = lines_of v x }) alone), tt);

@@ -12,3 +12,4 @@ pub mod CarriedLines
 pub mod CarriedTurns
 pub mod CarriedLaws
 pub mod NetLaws
+pub mod Reached

@@ -3,21 +3,23 @@ use Rattle.std.proofs.Common.{◌≡◌, ℕ, true, false, List, sym, ◌∙◌,
 use Rattle.step_tables.specs.Sayings.{Said}
 use Rattle.world_tables.specs.Sound.{IsSound}
 use Rattle.world_tables.specs.Quiet.{AreListed}
+use Rattle.world_tables.specs.Turns.{Happening}
 use Rattle.world_tables.specs.World.{hosted_at, client_at, is_resolving}
 use Rattle.asked_laws.specs.Asked.{AreAsked}
 use Rattle.asked_laws.specs.Phases.{is_away, has_phase}
 use Rattle.wire_tables.specs.Wire.{Wire}
 use Rattle.wire_tables.specs.Runs.{wire_turns}
+use Rattle.wire_laws.specs.Runs.{AreBuilt}
 use Rattle.wire_laws.proofs.WireRuns.{run_sound, run_listed, run_asked, run_phases, run_up}
 use Rattle.wire_laws.proofs.Histories.{wire_history_told}
 use Rattle.gated_tables.specs.Net.{start}
-use Rattle.gated_tables.specs.Runs.{NetHappening, net_from, net_turns}
-use Rattle.gated_laws.specs.Runs.{AreBuilt, AreDeclaredFirst, TellsHistories, IsRunOfWires}
+use Rattle.gated_tables.specs.Runs.{net_from, net_turns}
+use Rattle.gated_laws.specs.Runs.{AreDeclaredFirst, TellsHistories, IsRunOfWires}
 use Rattle.gated_laws.proofs.NetRuns.{run_of_wires}
 use Rattle.gated_laws.proofs.CarriedTurns.{sound_carried}
 use Rattle.gated_laws.proofs.CarriedLaws.{are_asked_carried, phases_too, heard_too, are_listed_too}
 
-module _ (run : List NetHappening) (first : AreDeclaredFirst run) (built : AreBuilt run) where
+module _ (run : List Happening) (first : AreDeclaredFirst run) (built : AreBuilt run) where
   r : IsRunOfWires run
   r = run_of_wires run first built
 

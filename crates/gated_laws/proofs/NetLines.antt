@@ -11,7 +11,7 @@ use Rattle.world_tables.specs.Quiet.{sent_in}
 use Rattle.name_laws.proofs.Plain.{IsPlainFact, ArePlainFacts}
 use Rattle.wire_tables.specs.Wire.{PartPacket, PartOutbox, Wire, WireStep, part_name}
 use Rattle.wire_tables.specs.Wire as wires
-use Rattle.gated_tables.specs.Net.{Sent, Net, NetOutbox, sent_lines, lines_from, lines_of, sending, out_of, carried_on}
+use Rattle.gated_tables.specs.Net.{Sent, Net, NetOutbox, sent_lines, lines_from, lines_of, sending, asks_by, asks_in, out_of, outs_of, carried_on}
 use Rattle.gated_laws.specs.Carried.{is_sent, without_sent, AreLinesCarried}
 
 -- ---- where packets go
@@ -126,9 +126,14 @@ wire_without number (out ∷ outs) =
 
 -- ---- a step that is carried on
 
-same_facts : (n : Net) (outs : List PartOutbox) → flat_map (λ (out : NetOutbox). out.facts) (map (out_of n) outs) ≡ flat_map (λ (out : PartOutbox). out.facts) outs
-same_facts n [] = refl
-same_facts n (out ∷ outs) = ap (λ (l : List Fact). out.facts ++ l) (same_facts n outs)
+-- what is asked for behind what is sent
+abbrev asked_out : List Sent → List NetOutbox
+asked_out asked = record { facts = []; sent = asked } ∷ []
+
+same_facts : (n : Net) (asked : List Sent) (outs : List PartOutbox)
+    → flat_map (λ (out : NetOutbox). out.facts) (map (out_of n) outs ++ asked_out asked) ≡ flat_map (λ (out : PartOutbox). out.facts) outs
+same_facts n asked [] = refl
+same_facts n asked (out ∷ outs) = ap (λ (l : List Fact). out.facts ++ l) (same_facts n asked outs)
 
 left_none : {X : Type 0} (xs ys : List X) → xs ++ ys ≡ [] → (xs ≡ []) × (ys ≡ [])
 left_none [] ys e = (refl, e)
@@ -139,15 +144,29 @@ unfolding packet_facts
 none_of number [] e = refl
 none_of number (p ∷ packets) e = absurd cc
 
-none_told : (n : Net) (number count : ℕ) (outs : List PartOutbox) → wire_told count outs ≡ [] → told number (map (out_of n) outs) ≡ []
-unfolding told wire_told
-none_told n number count [] e = refl
-none_told n number count (out ∷ outs) e =
-    let a = left_none out.facts (packet_facts count out.packets ++ wire_told (count + length out.packets) outs) e in
-    let b = left_none (packet_facts count out.packets) (wire_told (count + length out.packets) outs) a.1 in
-    ap (λ (o : PartOutbox). o.facts ++ (sent_facts number (out_of n o).sent ++ told (number + length (out_of n o).sent) (map (out_of n) outs)))
-    (ap (λ (some : List Fact). record out { facts = some }) a.0 ∙ ap (λ (ps : List PartPacket). record { facts = []; packets = ps }) (none_of count out.packets b.0))
-    ∙ none_told n (number + 0) (count + length out.packets) outs b.1
+-- where the wire tells nothing
+module _ (n : Net) where
+  none_behind : (asked : List Sent) (number count : ℕ) (outs : List PartOutbox) → asked ≡ [] → wire_told count outs ≡ [] → told number (map (out_of n) outs ++ asked_out asked) ≡ []
+  unfolding told wire_told
+  none_behind asked number count [] none e = ap (λ (some : List Sent). told number (asked_out some)) none
+  none_behind asked number count (out ∷ outs) none e =
+      let a = left_none out.facts (packet_facts count out.packets ++ wire_told (count + length out.packets) outs) e in
+      let b = left_none (packet_facts count out.packets) (wire_told (count + length out.packets) outs) a.1 in
+      let behind : List NetOutbox = map (out_of n) outs ++ asked_out asked in
+      ap (λ (o : PartOutbox). o.facts ++ (sent_facts number (out_of n o).sent ++ told (number + length (out_of n o).sent) behind))
+      (ap (λ (some : List Fact). record out { facts = some }) a.0 ∙ ap (λ (ps : List PartPacket). record { facts = []; packets = ps }) (none_of count out.packets b.0))
+      ∙ none_behind asked (number + 0) (count + length out.packets) outs none b.1
+
+  none_asked : (count : ℕ) (outs : List PartOutbox) → wire_told count outs ≡ [] → asks_in n outs ≡ []
+  unfolding wire_told
+  none_asked count [] e = refl
+  none_asked count (out ∷ outs) e =
+      let a = left_none out.facts (packet_facts count out.packets ++ wire_told (count + length out.packets) outs) e in
+      let b = left_none (packet_facts count out.packets) (wire_told (count + length out.packets) outs) a.1 in
+      ap (λ (some : List Fact). flat_map (asks_by n) some ++ asks_in n outs) a.0 ∙ none_asked (count + length out.packets) outs b.1
+
+  none_told : (number count : ℕ) (outs : List PartOutbox) → wire_told count outs ≡ [] → told number (outs_of n outs) ≡ []
+  none_told number count outs e = none_behind (asks_in n outs) number count outs (none_asked count outs e) e
 
 ahead : (a : List Line) (b c : List Line) → a ++ (b ++ c) ≡ (a ++ b) ++ c
 ahead [] b c = refl
@@ -163,14 +182,14 @@ lines_carried n m v s = record {
   whole_are = ap (λ (l : List Line). map AnswerLine (option_to_list s.answer) ++ (s.counted ++ l)) (wire_lines_told (length v.packets) s.outs)
       ∙ ahead (map AnswerLine (option_to_list s.answer)) s.counted (map FactLine (wire_told (length v.packets) s.outs));
   none = none_told m (length n.sent) (length v.packets) s.outs;
-  same = told_without (length n.sent) outs ∙ (ap without_sent (same_facts m s.outs) ∙ sym (wire_without (length v.packets) s.outs));
+  same = told_without (length n.sent) outs ∙ (ap without_sent (same_facts m (asks_in m s.outs) s.outs) ∙ sym (wire_without (length v.packets) s.outs));
 }
   where
     head : List Line
     head = map AnswerLine (option_to_list s.answer) ++ s.counted
 
     outs : List NetOutbox
-    outs = map (out_of m) s.outs
+    outs = outs_of m s.outs
 
 -- ---- what is sent
 
@@ -195,15 +214,19 @@ packets_send : (number : ℕ) (packets : List PartPacket) (rest : List Line) →
 packets_send number [] rest = refl
 packets_send number (p ∷ packets) rest = ap (λ (ns : List Node). p.to ∷ ns) (packets_send (number + 1) packets rest)
 
-outs_send : (number : ℕ) (m : Net) (outs : List PartOutbox) → AllByRecursion (λ (out : PartOutbox). ArePlainFacts out.facts) outs
-    → sent_in (lines_from number (map (out_of m) outs)) ≡ to_of (sent_by (map (out_of m) outs))
-outs_send number m [] p = refl
-outs_send number m (out ∷ outs) p =
-    let sent : List Sent = (out_of m out).sent in
-    let later : ℕ = number + length sent in
-    facts_send out.facts (sent_lines number sent ++ lines_from later (map (out_of m) outs)) p.0
-    ∙ (messages_send number sent (lines_from later (map (out_of m) outs))
-    ∙ (ap (λ (ns : List Node). to_of sent ++ ns) (outs_send later m outs p.1) ∙ sym (map-append (λ (x : Sent). x.to) sent (sent_by (map (out_of m) outs)))))
+module _ (m : Net) (asked : List Sent) where
+  abbrev outs_asked : List PartOutbox → List NetOutbox
+  outs_asked outs = map (out_of m) outs ++ asked_out asked
+
+  outs_send : (number : ℕ) (outs : List PartOutbox) → AllByRecursion (λ (out : PartOutbox). ArePlainFacts out.facts) outs
+      → sent_in (lines_from number (outs_asked outs)) ≡ to_of (sent_by (outs_asked outs))
+  outs_send number [] p = messages_send number asked [] ∙ sym (map-append (λ (x : Sent). x.to) asked [])
+  outs_send number (out ∷ outs) p =
+      let sent : List Sent = (out_of m out).sent in
+      let later : ℕ = number + length sent in
+      facts_send out.facts (sent_lines number sent ++ lines_from later (outs_asked outs)) p.0
+      ∙ (messages_send number sent (lines_from later (outs_asked outs))
+      ∙ (ap (λ (ns : List Node). to_of sent ++ ns) (outs_send later outs p.1) ∙ sym (map-append (λ (x : Sent). x.to) sent (sent_by (outs_asked outs)))))
 
 wire_outs_send : (number : ℕ) (outs : List PartOutbox) → AllByRecursion (λ (out : PartOutbox). ArePlainFacts out.facts) outs → sent_in (wires.lines_from number outs) ≡ wires_to (packets_by outs)
 wire_outs_send number [] p = refl
@@ -219,8 +242,8 @@ answer_sends (Some answer) rest = refl
 
 pub carried_sends : (n m : Net) (s : WireStep) → IsPlainWireStep s → sent_in (lines_of n (carried_on m s)) ≡ to_of (sent_by (carried_on m s).outs)
 carried_sends n m s p =
-    let lines : List Line = lines_from (length n.sent) (map (out_of m) s.outs) in
-    answer_sends s.answer (s.counted ++ lines) ∙ (p.counted lines ∙ outs_send (length n.sent) m s.outs p.facts)
+    let lines : List Line = lines_from (length n.sent) (outs_of m s.outs) in
+    answer_sends s.answer (s.counted ++ lines) ∙ (p.counted lines ∙ outs_send m (asks_in m s.outs) (length n.sent) s.outs p.facts)
 
 pub wire_sends : (v : Wire) (s : WireStep) → IsPlainWireStep s → sent_in (wires.lines_of v s) ≡ wires_to (packets_by s.outs)
 wire_sends v s p =

@@ -1,5 +1,5 @@
 -- A run with gateways is a run of wires.
-use Rattle.std.proofs.Common.{◌≡◌, ◌⊎◌, inl, inr, ⊎_elim, ℕ, Bool, true, false, List, [], ◌∷◌, ◌++◌, Option, Some, None, refl, sym, ◌∙◌, ap, subst, append-nil, append_assoc, true≢false}
+use Rattle.std.proofs.Common.{◌≡◌, ◌⊎◌, inl, inr, ⊎_elim, ℕ, Bool, true, false, List, [], ◌∷◌, ◌++◌, Option, Some, None, refl, sym, ◌∙◌, ap, subst, append-nil, append_assoc, true≢false, length, ◌≤◌, ◌+◌, ◌*◌, arith, length-append}
 use Rattle.std.specs.Prelude.{is_some, MatchBool}
 use Rattle.std.specs.List.{AllByRecursion}
 use Rattle.stab_base.specs.declared.node.Node.{Node}
@@ -18,17 +18,17 @@ use Rattle.wire_tables.specs.Wire.{Wire, WireStep, wire_step}
 use Rattle.wire_tables.specs.Wire as wires
 use Rattle.wire_tables.specs.Runs.{wire_from, wire_turns}
 use Rattle.wire_tables.specs.Runs as wire_runs
-use Rattle.wire_laws.specs.Runs as wire_laws
+use Rattle.wire_laws.specs.Runs.{AreBuilt}
 use Rattle.gate_tables.specs.Gate.{Gateway}
 use Rattle.gated_tables.specs.Devices.{new_device}
-use Rattle.gated_tables.specs.Net.{Net, NetEvent, NetStep, Of, Gate, start, gate_at, device_at, lines_of, with_device, carried_on, joined_by, gate_declared, net_step_of, net_step}
+use Rattle.gated_tables.specs.Net.{Net, NetStep, start, gate_at, device_at, lines_of, with_device, carried_on, joined_by, gate_declared, net_step}
 use Rattle.gated_tables.specs.Net as net
-use Rattle.gated_tables.specs.Runs.{NetHappening, net_from, turns_from}
+use Rattle.gated_tables.specs.Runs.{net_from, turns_from}
 use Rattle.gated_laws.specs.Carried.{IsLone, IsEventCarried, IsTurnCarried, AreLinkTurns, AreCarriedFrom}
-use Rattle.gated_laws.specs.Runs.{IsNetBuilt, AreBuilt, declares, AreDeclaredFirst, IsRunOfWires}
+use Rattle.gated_laws.specs.Runs.{AreDeclaredFirst, IsRunOfWires}
 use Rattle.gated_laws.proofs.NetLines.{to_of, wires_to}
 use Rattle.gated_laws.proofs.KeptWires.{turns_join, from_join, built_join, IsDeclaredWire, declares_wire, IsLinked, none_linked, link_turns_join, start_kept}
-use Rattle.gated_laws.proofs.KeptNets.{IsKeptNet, IsLinkedNet, itself, device_net, gates_linked, IsShared, IsAlone, Carries, then_carries, shares}
+use Rattle.gated_laws.proofs.KeptNets.{IsKeptNet, IsLinkedNet, itself, device_net, gates_linked, IsShared, IsAlone, Carries, then_carries, carries_more, shares}
 use Rattle.gated_laws.proofs.Carrying.{carries}
 
 -- ---- more links
@@ -50,16 +50,18 @@ IsNext sent whole turn turns rest =
     ⊎ ((other : Turn) × (more : List Turn) × (rest ≡ other ∷ more) × IsTurnCarried sent whole turn other
     × AreCarriedFrom (sent ++ sent_in turn.lines) (whole ++ sent_in other.lines) turns more)
 
-record IsRunFrom (n : Net) (run : List NetHappening) : Type 0 where
+record IsRunFrom (n : Net) (run : List Happening) : Type 0 where
   pub whole : List Happening
-  pub built : wire_laws.AreBuilt whole
+  pub few : length whole ≤ 3 * length run
+  pub built : AreBuilt whole
   pub wire : (net_from n run).wire ≡ wire_from n.wire whole
   pub carried : AreCarriedFrom (to_of n.sent) (wires_to n.wire.packets) (turns_from n run) (wire_runs.turns_from n.wire whole)
 
-module _ (n : Net) (event : Event) (x : NetStep) (more : List NetHappening) (c : Carries n event x) (next : IsRunFrom x.net more) where
+module _ (n : Net) (event : Event) (x : NetStep) (more : List Happening) (c : Carries 1 n event x) (next : IsRunFrom x.net more) where
   record IsNextFrom (v : Wire) : Type 0 where
     whole : List Happening
-    built : wire_laws.AreBuilt whole
+    few : length whole ≤ 2 + length next.whole
+    built : AreBuilt whole
     wire : (net_from x.net more).wire ≡ wire_from v whole
     is : IsNext (to_of n.sent) (wires_to v.packets) (turn_for n event x) (turns_from x.net more) (wire_runs.turns_from v whole)
 
@@ -82,19 +84,21 @@ module _ (n : Net) (event : Event) (x : NetStep) (more : List NetHappening) (c :
   next_from : IsNextFrom c.v
   next_from = ⊎_elim alone shared c.middle
     where
-      alone : IsAlone n event x c.v → IsNextFrom c.v
+      alone : IsAlone 1 n event x c.v → IsNextFrom c.v
       alone a = record {
         whole = linked c.v a.behind;
+        few = let longer = length-append a.behind.run next.whole in let few = a.few in omega (arith, longer, few);
         built = built_join a.behind.run next.whole a.behind.built next.built;
         wire = linked_wire c.v a.behind;
         is = inl (a.lone, linked_carried c.v a.behind);
       }
 
-      shared : IsShared n event x c.v → IsNextFrom c.v
+      shared : IsShared 1 n event x c.v → IsNextFrom c.v
       shared a =
           let s : WireStep = wire_step c.v a.other a.lucks in
           record {
             whole = record { event = a.other; lucks = a.lucks } ∷ linked s.wire a.behind;
+            few = let longer = length-append a.behind.run next.whole in let few = a.few in omega (arith, longer, few);
             built = (a.built, built_join a.behind.run next.whole a.behind.built next.built);
             wire = linked_wire s.wire a.behind;
             is = inr (
@@ -109,7 +113,8 @@ module _ (n : Net) (event : Event) (x : NetStep) (more : List NetHappening) (c :
 
   record IsBehind : Type 0 where
     pub whole : List Happening
-    pub built : wire_laws.AreBuilt whole
+    pub few : length whole ≤ 3 + length next.whole
+    pub built : AreBuilt whole
     pub wire : (net_from x.net more).wire ≡ wire_from n.wire whole
     pub carried : AreCarriedFrom (to_of n.sent) (wires_to n.wire.packets) (turn_for n event x ∷ turns_from x.net more) (wire_runs.turns_from n.wire whole)
 
@@ -122,6 +127,7 @@ module _ (n : Net) (event : Event) (x : NetStep) (more : List NetHappening) (c :
       go : IsNextFrom c.v → IsBehind
       go f = record {
         whole = b.run ++ f.whole;
+        few = let longer = length-append b.run f.whole in let links = b.few in let few = f.few in omega (arith, longer, links, few);
         built = built_join b.run f.whole b.built f.built;
         wire = f.wire ∙ (ap (λ (w : Wire). wire_from w f.whole) (sym b.is) ∙ sym (from_join n.wire b.run f.whole));
         carried = (
@@ -135,36 +141,33 @@ module _ (n : Net) (event : Event) (x : NetStep) (more : List NetHappening) (c :
 
 -- ---- where nothing is declared any more
 
-run_on : (run : List NetHappening) → AllByRecursion (λ (h : NetHappening). declares h.event ≡ false) run → AreBuilt run → (n : Net) → IsKeptNet n → IsRunFrom n run
-run_on [] plain built n k = record { whole = []; built = tt; wire = refl; carried = tt }
-run_on (h ∷ more) plain built n k = go h.event plain.0 built.0 (run_on more plain.1 built.1)
-  where
-    go : (e : NetEvent) → declares e ≡ false → IsNetBuilt e → ((m : Net) → IsKeptNet m → IsRunFrom m more) → IsRunFrom n (record { event = e; lucks = h.lucks } ∷ more)
-    go (Gate number) d b rest = absurd (true≢false d)
-    go (Of event) d b rest =
-        let c : Carries n event (net_step_of n event h.lucks) = carries n k event d b h.lucks in
-        let r = behind n event (net_step_of n event h.lucks) more c (rest (net_step_of n event h.lucks).net c.kept) in
-        record { whole = r.whole; built = r.built; wire = r.wire; carried = r.carried }
+run_on : (run : List Happening) → AllByRecursion (λ (h : Happening). is_declaration h.event ≡ false) run → AreBuilt run → (n : Net) → IsKeptNet n → IsRunFrom n run
+run_on [] plain built n k = record { whole = []; few = omega arith; built = tt; wire = refl; carried = tt }
+run_on (h ∷ more) plain built n k =
+    let c : Carries 1 n h.event (net_step n h.event h.lucks) = carries n k h.event plain.0 built.0 h.lucks in
+    let rest : IsRunFrom (net_step n h.event h.lucks).net more = run_on more plain.1 built.1 (net_step n h.event h.lucks).net c.kept in
+    let r = behind n h.event (net_step n h.event h.lucks) more c rest in
+    record { whole = r.whole; few = let a = r.few in let b = rest.few in omega (arith, a, b); built = r.built; wire = r.wire; carried = r.carried }
 
 -- ---- where nothing was sent
 
-record IsSilent (n : Net) : Type 0 where
+pub record IsSilent (n : Net) : Type 0 where
   pub kept : IsKeptNet n
   pub sent : n.sent ≡ []
   pub packets : n.wire.packets ≡ []
   pub whole : n.wire.world.packets ≡ []
 
-record DeclaresNet (n : Net) (event : Event) (x : NetStep) : Type 0 where
-  pub carries : Carries n event x
+pub record DeclaresNet (most : ℕ) (n : Net) (event : Event) (x : NetStep) : Type 0 where
+  pub carries : Carries most n event x
   pub silent : IsSilent x.net
 
 module _ (n : Net) (k : IsSilent n) where
   -- an event of the wire, which sends nothing
   declares_on : (event other : Event) (lucks : Lucks) → is_declaration other ≡ true → IsBuilt other → IsEventCarried (to_of n.sent) (wires_to n.wire.packets) event other
-      → (wire_step n.wire other lucks).outs ≡ [] → DeclaresNet n event (carried_on n (wire_step n.wire other lucks))
+      → (wire_step n.wire other lucks).outs ≡ [] → DeclaresNet 0 n event (carried_on n (wire_step n.wire other lucks))
   declares_on event other lucks is built carried none =
       let d : IsDeclaredWire n.wire (wire_step n.wire other lucks).wire = declares_wire n.wire k.kept.wire k.packets k.whole other is built lucks in
-      let c : Carries n event (carried_on n (wire_step n.wire other lucks)) = shares n k.kept n.wire (none_linked n.wire k.kept.wire) event other lucks built carried d.kept d.clients in
+      let c : Carries 0 n event (carried_on n (wire_step n.wire other lucks)) = shares n k.kept n.wire (none_linked n.wire k.kept.wire) event other lucks built carried d.kept d.clients in
       record {
         carries = c;
         silent = record {
@@ -175,7 +178,10 @@ module _ (n : Net) (k : IsSilent n) where
         };
       }
 
-  linked_too : (event : Event) (x : NetStep) → DeclaresNet n event x → (later : Net) → IsLinkedNet x.net later → DeclaresNet n event (record x { net = later })
+  declares_more : (event : Event) (x : NetStep) → DeclaresNet 0 n event x → DeclaresNet 1 n event x
+  declares_more event x d = record { carries = carries_more n event x d.carries; silent = d.silent }
+
+  linked_too : (event : Event) (x : NetStep) → DeclaresNet 0 n event x → (later : Net) → IsLinkedNet x.net later → DeclaresNet 1 n event (record x { net = later })
   linked_too event x d later l = record {
     carries = then_carries n event x d.carries later l;
     silent = record { kept = l.kept; sent = l.sent ∙ d.silent.sent; packets = l.linked.packets ∙ d.silent.packets; whole = l.linked.whole ∙ d.silent.whole };
@@ -187,8 +193,8 @@ module _ (n : Net) (k : IsSilent n) where
       ∙ ⊎_elim (λ e. ap (λ (o : Option Client). is_some o) e.1) (λ e. absurd (e.0 refl)) (look_cases n.wire.world.clients c (new_client (open_all n.wire.world [] tables) (first_agenda luck)) c)
 
   declares_client : (c : ℕ) (number : Option ℕ) (tables : List ℕ) (lucks : Lucks) → IsBuilt (events.Client c number tables) → (o : Option Client) → client_at n.wire.world c ≡ o
-      → DeclaresNet n (events.Client c number tables) (net.joined n c number tables lucks o)
-  declares_client c number tables lucks built (Some node) at = declares_on (events.Client c number tables) (events.Client c None tables) lucks refl built refl refl
+      → DeclaresNet 1 n (events.Client c number tables) (net.joined n c number tables lucks o)
+  declares_client c number tables lucks built (Some node) at = declares_more (events.Client c number tables) _ (declares_on (events.Client c number tables) (events.Client c None tables) lucks refl built refl refl)
   declares_client c number tables lucks built None at = go number
     where
       event : Event
@@ -197,55 +203,53 @@ module _ (n : Net) (k : IsSilent n) where
       s : NetStep
       s = carried_on n (wire_step n.wire (events.Client c None tables) lucks)
 
-      first : DeclaresNet n event s
+      first : DeclaresNet 0 n event s
       first = declares_on (events.Client c number tables) (events.Client c None tables) lucks refl built refl refl
 
-      go : (o : Option ℕ) → DeclaresNet n event (record s { net = joined_by c o s.net })
+      go : (o : Option ℕ) → DeclaresNet 1 n event (record s { net = joined_by c o s.net })
       go None = linked_too event s first s.net (itself s.net first.silent.kept)
       go (Some gate) = linked_too event s first (with_device c (new_device gate) s.net)
           (device_net s.net first.silent.kept c (new_device gate) (joins_there c tables (first_luck lucks.calls) at))
 
-  declares_net : (event : Event) → is_declaration event ≡ true → IsBuilt event → (lucks : Lucks) → DeclaresNet n event (net_step_of n event lucks)
-  declares_net (events.Store number) d built lucks = declares_on (events.Store number) (events.Store number) lucks refl built refl refl
-  declares_net (events.Table table schema) d built lucks = declares_on (events.Table table schema) (events.Table table schema) lucks refl built refl refl
+  -- a gateway's declaration is one of the wire, where it changes nothing
+  declares_gate : (number : ℕ) (lucks : Lucks) (o : Option Gateway) → DeclaresNet 1 n (events.Gate number) (carried_on (gate_declared number o n) (wire_step n.wire (events.Gate number) lucks))
+  declares_gate number lucks None =
+      linked_too event s first (record s.net { gates = (gate_declared number None n).gates }) (gates_linked s.net (gate_declared number None n).gates first.silent.kept)
+    where
+      event : Event
+      event = events.Gate number
+
+      s : NetStep
+      s = carried_on n (wire_step n.wire (events.Gate number) lucks)
+
+      first : DeclaresNet 0 n (events.Gate number) s
+      first = declares_on (events.Gate number) (events.Gate number) lucks refl tt refl refl
+  declares_gate number lucks (Some gateway) = declares_more (events.Gate number) _ (declares_on (events.Gate number) (events.Gate number) lucks refl tt refl refl)
+
+  pub declares_net : (event : Event) → is_declaration event ≡ true → IsBuilt event → (lucks : Lucks) → DeclaresNet 1 n event (net_step n event lucks)
+  declares_net (events.Store number) d built lucks = declares_more (events.Store number) _ (declares_on (events.Store number) (events.Store number) lucks refl built refl refl)
+  declares_net (events.Gate number) d built lucks = declares_gate number lucks (gate_at n number)
+  declares_net (events.Table table schema) d built lucks = declares_more (events.Table table schema) _ (declares_on (events.Table table schema) (events.Table table schema) lucks refl built refl refl)
   declares_net (events.Client c number tables) d built lucks = declares_client c number tables lucks built (client_at n.wire.world c) refl
   declares_net other d built lucks = absurd (true≢false (sym d))
 
-  declares_gate : (number : ℕ) (o : Option Gateway) → IsSilent (gate_declared number o n)
-  declares_gate number None = record { kept = (gates_linked n (gate_declared number None n).gates k.kept).kept; sent = k.sent; packets = k.packets; whole = k.whole }
-  declares_gate number (Some gateway) = k
-
-  gate_wire : (number : ℕ) (o : Option Gateway) → ((gate_declared number o n).wire ≡ n.wire) × ((gate_declared number o n).sent ≡ n.sent)
-  gate_wire number None = (refl, refl)
-  gate_wire number (Some gateway) = (refl, refl)
-
-run_first : (run : List NetHappening) → AreDeclaredFirst run → AreBuilt run → (n : Net) → IsSilent n → IsRunFrom n run
-run_first [] first built n k = record { whole = []; built = tt; wire = refl; carried = tt }
-run_first (h ∷ more) first built n k = go h.event (declares h.event) refl first built.0 (λ f m s. run_first more f built.1 m s)
+run_first : (run : List Happening) → AreDeclaredFirst run → AreBuilt run → (n : Net) → IsSilent n → IsRunFrom n run
+run_first [] first built n k = record { whole = []; few = omega arith; built = tt; wire = refl; carried = tt }
+run_first (h ∷ more) first built n k = go (is_declaration h.event) refl first (λ f m s. run_first more f built.1 m s)
   where
-    Rest : Type 0
-    Rest = AreDeclaredFirst more → (m : Net) → IsSilent m → IsRunFrom m more
+    x : NetStep
+    x = net_step n h.event h.lucks
 
-    go : (e : NetEvent) (b : Bool) → declares e ≡ b → MatchBool b (AreDeclaredFirst more) (AllByRecursion (λ (x : NetHappening). declares x.event ≡ false) more) → IsNetBuilt e → Rest
-        → IsRunFrom n (record { event = e; lucks = h.lucks } ∷ more)
-    go e false is f b rest = run_on (record { event = e; lucks = h.lucks } ∷ more) (is, f) (b, built.1) n k.kept
-    go (Of event) true is f b rest =
-        let d : DeclaresNet n event (net_step_of n event h.lucks) = declares_net n k event is b h.lucks in
-        let r = behind n event (net_step_of n event h.lucks) more d.carries (rest f (net_step_of n event h.lucks).net d.silent) in
-        record { whole = r.whole; built = r.built; wire = r.wire; carried = r.carried }
-    go (Gate number) true is f b rest =
-        let m : Net = gate_declared number (gate_at n number) n in
-        let same = gate_wire n k number (gate_at n number) in
-        let r : IsRunFrom m more = rest f m (declares_gate n k number (gate_at n number)) in
-        record {
-          whole = r.whole;
-          built = r.built;
-          wire = r.wire ∙ ap (λ (w : Wire). wire_from w r.whole) same.0;
-          carried = subst (λ (w : Wire). AreCarriedFrom (to_of n.sent) (wires_to w.packets) (turns_from m more) (wire_runs.turns_from w r.whole)) same.0
-              (subst (λ (sent : List net.Sent). AreCarriedFrom (to_of sent) (wires_to m.wire.packets) (turns_from m more) (wire_runs.turns_from m.wire r.whole)) same.1 r.carried);
-        }
+    go : (b : Bool) → is_declaration h.event ≡ b → MatchBool b (AreDeclaredFirst more) (AllByRecursion (λ (y : Happening). is_declaration y.event ≡ false) more)
+        → (AreDeclaredFirst more → (m : Net) → IsSilent m → IsRunFrom m more) → IsRunFrom n (h ∷ more)
+    go false is f rest = run_on (h ∷ more) (is, f) built n k.kept
+    go true is f rest =
+        let d : DeclaresNet 1 n h.event x = declares_net n k h.event is built.0 h.lucks in
+        let from : IsRunFrom x.net more = rest f x.net d.silent in
+        let r = behind n h.event x more d.carries from in
+        record { whole = r.whole; few = let a = r.few in let b = from.few in omega (arith, a, b); built = r.built; wire = r.wire; carried = r.carried }
 
-start_silent : IsSilent start
+pub start_silent : IsSilent start
 start_silent = record {
   kept = record { wire = start_kept; devices = λ c d at. absurd cc; sent = λ p a part is. absurd (among_none p a) };
   sent = refl;
@@ -255,5 +259,5 @@ start_silent = record {
 
 -- ---- every run
 
-pub run_of_wires : (run : List NetHappening) → AreDeclaredFirst run → AreBuilt run → IsRunOfWires run
-run_of_wires run first built = let r = run_first run first built start start_silent in record { whole = r.whole; built = r.built; wire = r.wire; carried = r.carried }
+pub run_of_wires : (run : List Happening) → AreDeclaredFirst run → AreBuilt run → IsRunOfWires run
+run_of_wires run first built = let r = run_first run first built start start_silent in record { whole = r.whole; few = r.few; built = r.built; wire = r.wire; carried = r.carried }

@@ -1,7 +1,7 @@
 -- The world of parts with gateways. A client is wired to the Stores, or has a gateway: what it sends goes there, and
 -- the gateway passes it on to the owner of the table as it is; what a Store answers comes back the same way. What
 -- clients and Stores make of a part that has come is what they make of it in the world of parts.
-use Rattle.std.specs.Prelude.{ℕ, ◌+◌, ◌==◌, ◌&&◌, Bool, true, false, List, [], ◌∷◌, ◌++◌, length, map}
+use Rattle.std.specs.Prelude.{ℕ, ◌+◌, ◌==◌, ◌&&◌, Bool, true, false, List, [], ◌∷◌, ◌++◌, length, map, fold}
 use Rattle.std.specs.Prelude.{slice_get, Option, Some, None, option_to_list, if◌then◌else◌}
 use Rattle.std.specs.List.{flat_map}
 use Rattle.std.specs.Ordering.{nat_cmp}
@@ -70,11 +70,6 @@ has_none (Some x) = false
 abbrev pub is_node_down : Net → Node → Bool
 is_node_down n (nodes.Gate number) = has_none (running_in (gate_at n number))
 is_node_down n node = is_down n.wire.world node
-
--- what an event does; a gateway is declared
-pub data NetEvent : Type 0 where
-  Of : (event : Event) → NetEvent
-  Gate : (number : ℕ) → NetEvent
 
 -- ---- what is told and sent
 
@@ -179,12 +174,22 @@ asks_by n (facts.ClientRecovered c) = asks_again c (device_at n c)
 asks_by n other = []
 
 abbrev pub out_of : Net → PartOutbox → NetOutbox
-out_of n out = record { facts = out.facts; sent = map (routed n) out.packets ++ flat_map (asks_by n) out.facts }
+out_of n out = record { facts = out.facts; sent = map (routed n) out.packets }
 
 -- ---- a step of the wire, with what it sends on its way
 
+-- what clients ask for that have recovered in it; a recovery's end is the last thing that a step does
+abbrev pub asks_in : Net → List PartOutbox → List Sent
+asks_in n outs = flat_map (λ (out : PartOutbox). flat_map (asks_by n) out.facts) outs
+
+abbrev pub asking_out : Net → List PartOutbox → NetOutbox
+asking_out n outs = record { facts = []; sent = asks_in n outs }
+
+abbrev pub outs_of : Net → List PartOutbox → List NetOutbox
+outs_of n outs = map (out_of n) outs ++ asking_out n outs ∷ []
+
 abbrev pub carried_on : Net → WireStep → NetStep
-carried_on n s = let outs : List NetOutbox = map (out_of n) s.outs in record {
+carried_on n s = let outs : List NetOutbox = outs_of n s.outs in record {
   net = record n { wire = s.wire; sent = n.sent ++ flat_map (λ (out : NetOutbox). out.sent) outs };
   answer = s.answer;
   counted = s.counted;
@@ -270,15 +275,16 @@ to_store n number p lucks None = by_message p.message
 abbrev pub place_of : World → ℕ × Schema → ℕ × Placed
 place_of w e = (e.0, record { owner = owner_of w e.0; scheme = e.1.scheme })
 
+-- no table has a place where no Store is on the ring
+abbrev pub places_in : World → List ℕ → List (ℕ × Placed)
+places_in w [] = []
+places_in w (store ∷ stores) = map (place_of w) w.schemas
+
 abbrev pub directory_of : World → Directory
-directory_of w = let places : List (ℕ × Placed) = map (place_of w) w.schemas in record {
+directory_of w = let places : List (ℕ × Placed) = places_in w w.stores in record {
   tables = places;
-  owners = owners_in places;
+  owners = fold (λ (owners : List ℕ) (e : ℕ × Placed). insert_key nat_cmp owners e.1.owner) [] places;
 }
-  where
-    owners_in : List (ℕ × Placed) → List ℕ
-    owners_in [] = []
-    owners_in (e ∷ more) = insert_key nat_cmp (owners_in more) e.1.owner
 
 abbrev pub with_running : ℕ → ℕ → Running → Net → Net
 with_running number starts running n = record n {
@@ -368,26 +374,23 @@ client_started n c lucks = let s : NetStep = carried_on n (wire_step n.wire (eve
 
 -- ---- events
 
-abbrev pub net_step_of : Net → Event → Lucks → NetStep
-net_step_of n (events.Client c number tables) lucks = joined n c number tables lucks (client_at n.wire.world c)
-net_step_of n (events.Deliver number) lucks = delivered n lucks (slice_get n.sent number)
-net_step_of n (events.Link c up) lucks = linked n c up lucks (device_at n c)
-net_step_of n (events.Start (nodes.Client c)) lucks = client_started n c lucks
-net_step_of n (events.Hold (nodes.Gate number)) lucks =
-    unless_down n (nodes.Gate number) (carried_on n (wire_step n.wire (events.Hold (nodes.Gate number)) lucks))
-net_step_of n (events.Free (nodes.Gate number)) lucks =
-    unless_down n (nodes.Gate number) (carried_on n (wire_step n.wire (events.Free (nodes.Gate number)) lucks))
-net_step_of n (events.Work (nodes.Gate number)) lucks =
-    unless_down n (nodes.Gate number) (still n (facts.Did steps.Idle))
-net_step_of n (events.WorkAll (nodes.Gate number)) lucks =
-    unless_down n (nodes.Gate number) (still n (facts.Number 0))
-net_step_of n (events.Crash (nodes.Gate number) calls pick) lucks =
-    unless_down n (nodes.Gate number) (gate_crashed n number (gate_at n number))
-net_step_of n (events.Start (nodes.Gate number)) lucks = gate_started n number (gate_at n number)
-net_step_of n event lucks = carried_on n (wire_step n.wire event lucks)
-
 -- what an event makes of the world, where its device calls go so
-abbrev pub net_step : Net → NetEvent → Lucks → NetStep
-net_step n (Of event) lucks = net_step_of n event lucks
-net_step n (Gate number) lucks =
-    record { net = gate_declared number (gate_at n number) n; answer = None; counted = []; outs = [] }
+abbrev pub net_step : Net → Event → Lucks → NetStep
+net_step n (events.Gate number) lucks =
+    carried_on (gate_declared number (gate_at n number) n) (wire_step n.wire (events.Gate number) lucks)
+net_step n (events.Client c number tables) lucks = joined n c number tables lucks (client_at n.wire.world c)
+net_step n (events.Deliver number) lucks = delivered n lucks (slice_get n.sent number)
+net_step n (events.Link c up) lucks = linked n c up lucks (device_at n c)
+net_step n (events.Start (nodes.Client c)) lucks = client_started n c lucks
+net_step n (events.Hold (nodes.Gate number)) lucks =
+    unless_down n (nodes.Gate number) (carried_on n (wire_step n.wire (events.Hold (nodes.Gate number)) lucks))
+net_step n (events.Free (nodes.Gate number)) lucks =
+    unless_down n (nodes.Gate number) (carried_on n (wire_step n.wire (events.Free (nodes.Gate number)) lucks))
+net_step n (events.Work (nodes.Gate number)) lucks =
+    unless_down n (nodes.Gate number) (still n (facts.Did steps.Idle))
+net_step n (events.WorkAll (nodes.Gate number)) lucks =
+    unless_down n (nodes.Gate number) (still n (facts.Number 0))
+net_step n (events.Crash (nodes.Gate number) calls pick) lucks =
+    unless_down n (nodes.Gate number) (gate_crashed n number (gate_at n number))
+net_step n (events.Start (nodes.Gate number)) lucks = gate_started n number (gate_at n number)
+net_step n event lucks = carried_on n (wire_step n.wire event lucks)

@@ -8,16 +8,17 @@ use Rattle.row_value.specs.declared.content.Content.TheVariants.{Row}
 use Rattle.row_value.specs.declared.schema.ColumnKind.TheVariants as kinds
 use Rattle.row_value.specs.declared.schema.Schema.{Schema}
 use Rattle.row_value.specs.declared.schema.Scheme.TheVariants.{Causal}
+use Rattle.table_model.specs.declared.event.Event.{Event}
 use Rattle.table_model.specs.declared.event.Event.TheVariants as events
 use Rattle.table_model.specs.declared.message_name.MessageName.{MessageName}
 use Rattle.table_model.specs.declared.message_name.MessageName.TheVariants as names
 use Rattle.step_tables.specs.Facts.{Line, AnswerLine, FactLine}
 use Rattle.step_tables.specs.Facts as facts
 use Rattle.world_tables.specs.World.{no_lucks}
-use Rattle.gated_tables.specs.Net.{Net, NetEvent, NetStep, Of, Gate, net_step, lines_of}
+use Rattle.gated_tables.specs.Net.{Net, NetStep, net_step, lines_of}
 
 -- what each event writes where all goes well
-abbrev pub written : Net → List NetEvent → List (List Line)
+abbrev pub written : Net → List Event → List (List Line)
 written n [] = []
 written n (event ∷ more) = let s : NetStep = net_step n event no_lucks in lines_of n s ∷ written s.net more
 
@@ -41,27 +42,27 @@ g1 = nodes.Gate 1
 abbrev pub s1 : Node
 s1 = nodes.Store 1
 
-abbrev pub deliver : ℕ → NetEvent
-deliver packet = Of (events.Deliver packet)
+abbrev pub deliver : ℕ → Event
+deliver packet = events.Deliver packet
 
-abbrev pub sync : NetEvent
-sync = Of (events.Sync 1 1)
+abbrev pub sync : Event
+sync = events.Sync 1 1
 
-abbrev pub registering_again : List NetEvent
+abbrev pub registering_again : List Event
 registering_again =
-    Of (events.Store 1)
-    ∷ Gate 1
-    ∷ Of (events.Table 1 notes)
-    ∷ Of (events.Client 1 (Some 1) (1 ∷ []))
-    ∷ Of (events.Link 1 true)
+    events.Store 1
+    ∷ events.Gate 1
+    ∷ events.Table 1 notes
+    ∷ events.Client 1 (Some 1) (1 ∷ [])
+    ∷ events.Link 1 true
     ∷ deliver 0
     ∷ deliver 1
-    ∷ Of (events.Write 1 1 the_row (Row (cells.Int (pos 5) ∷ []) []))
+    ∷ events.Write 1 1 the_row (Row (cells.Int (pos 5) ∷ []) [])
     ∷ sync
     ∷ deliver 3
     ∷ deliver 4
-    ∷ Of (events.Crash g1 0 0)
-    ∷ Of (events.Start g1)
+    ∷ events.Crash g1 0 0
+    ∷ events.Start g1
     ∷ deliver 5
     ∷ sync
     ∷ deliver 6
@@ -122,29 +123,29 @@ registering_again_written =
     ∷ (ok ∷ FactLine (facts.Client (facts.Acked 1 1 1 the_row 1)) ∷ [])
     ∷ []
 
-abbrev pub pull : NetEvent
-pull = Of (events.Pull 1 1)
+abbrev pub pull : Event
+pull = events.Pull 1 1
 
-abbrev pub client_goes_down : List NetEvent
+abbrev pub client_goes_down : List Event
 client_goes_down =
-    Of (events.Store 1)
-    ∷ Gate 1
-    ∷ Of (events.Table 1 notes)
-    ∷ Of (events.Client 1 (Some 1) (1 ∷ []))
-    ∷ Of (events.Link 1 true)
+    events.Store 1
+    ∷ events.Gate 1
+    ∷ events.Table 1 notes
+    ∷ events.Client 1 (Some 1) (1 ∷ [])
+    ∷ events.Link 1 true
     ∷ deliver 0
     ∷ deliver 1
-    ∷ Of (events.Crash c1 0 0)
-    ∷ Of (events.Start c1)
+    ∷ events.Crash c1 0 0
+    ∷ events.Start c1
     ∷ pull
     ∷ deliver 2
     ∷ deliver 3
     ∷ deliver 4
     ∷ deliver 5
-    ∷ Of (events.Link 1 false)
+    ∷ events.Link 1 false
     ∷ pull
     ∷ deliver 5
-    ∷ Of (events.Link 1 true)
+    ∷ events.Link 1 true
     ∷ pull
     ∷ []
 

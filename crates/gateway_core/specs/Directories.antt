@@ -1,5 +1,5 @@
 -- Where a ring puts tables.
-use Rattle.std.specs.Prelude.{◌≡◌, ℕ, ◌==◌, List, [], Option, Some, None, fold, string_bytes}
+use Rattle.std.specs.Prelude.{◌≡◌, ℕ, ◌==◌, List, [], Option, Some, None, fold}
 use Rattle.std.specs.Ordering.{nat_cmp}
 use Rattle.std.specs.BTreeSet.{insert_key}
 use Rattle.std.specs.FinSet as set
@@ -18,7 +18,7 @@ IsPlacedBy stores None None = Unit {0}
 IsPlacedBy stores None (Some place) = ⊥
 IsPlacedBy stores (Some named) None = stores ≡ set.empty
 IsPlacedBy stores (Some named) (Some place) =
-    IsOwner stores (string_bytes named.name) place.owner × (place.scheme ≡ named.scheme)
+    IsOwner stores named.name place.owner × (place.scheme ≡ named.scheme)
 
 abbrev pub with_owner : List ℕ → ℕ × Placed → List ℕ
 with_owner owners e = insert_key nat_cmp owners e.1.owner

@@ -2,6 +2,8 @@
 ghost use Rattle.std.specs.Prelude.{◌≡◌, ◌==◌, ℕ, Option, Some, if◌then◌else◌, IfOk, OnOk, map};
 ghost use Rattle.std.specs.Ordering.{nat_cmp};
 ghost use Rattle.std.specs.BTreeMap as tree;
+ghost use Rattle.std.specs.List.Sorted.{IsStrictlySortedBy};
+ghost use Rattle.std.specs.Map.{keys_of};
 ghost use Rattle.gate_tables.specs.Gate.{asks, placed, is_strong};
 ghost use Rattle.gateway_core.specs.Directories.{IsPlacedBy, last_named, owners_of};
 
@@ -9,7 +11,7 @@ use crate::out::Sent;
 use gate_tables::Placed;
 use ring_map::Ring;
 use row_value::Scheme;
-use stab_base::{ClientNo, GateNo, Node, Sequence, StoreNo, TableNo};
+use stab_base::{Bytes, ClientNo, GateNo, Node, Sequence, StoreNo, TableNo};
 use std::alloc::{AllocError, Global};
 use std::collections::{BTreeMap, BTreeSet};
 use std::marker::Model;
@@ -51,7 +53,7 @@ pub struct NamedTable {
     pub table: TableNo,
     pub scheme: Scheme,
     /// By which the ring places it.
-    pub name: String,
+    pub name: Bytes,
 }
 
 // Puts a table at its owner, in place of what stood there by its number.
@@ -65,7 +67,7 @@ fn place(
         → IsPlacedBy ring.now (if named.now.table == table then Some named.now else found)
         (tree.get nat_cmp places.new table)) }
 {
-    if let Some(owner) = ring.owner(named.name.as_bytes()) {
+    if let Some(owner) = ring.owner(named.name.as_slice()) {
         let scheme = named.scheme;
         places.insert(named.table, Placed { owner, scheme })?;
     }
@@ -91,7 +93,8 @@ fn owners_of(
     alloc: Global,
     places: &BTreeMap<TableNo, Placed>,
 ) -> Result<BTreeSet<StoreNo>, AllocError>
-    ensures { IfOk result (λ owners. owners.keys ≡ owners_of places.now.entries) }
+    ensures owners { IfOk result (λ owners. owners.keys ≡ owners_of places.now.entries) }
+    ensures ordered { IsStrictlySortedBy nat_cmp (keys_of places.now.entries) }
 {
     let mut owners = BTreeSet::new(alloc);
     for (_, place) in places {
@@ -107,6 +110,7 @@ impl Directory {
         ensures placed { IfOk result (λ made. (table : ℕ)
             → IsPlacedBy ring.now (last_named table tables.now) (placed made table)) }
         ensures owners { IfOk result (λ made. made.owners ≡ owners_of made.tables) }
+        ensures ordered { IfOk result (λ made. IsStrictlySortedBy nat_cmp (keys_of made.tables)) }
     {
         let tables = place_all(alloc, tables, ring)?;
         let owners = owners_of(alloc, &tables)?;

@@ -56,6 +56,23 @@ impl Gateway {
         self.running.is_some()
     }
 
+    /// How often it has started.
+    pub fn starts(&self) -> u32
+        ensures { result ≡ (state_of self.now).starts }
+    {
+        self.site.starts
+    }
+
+    /// From now on this is its directory. Its sessions, its timers and what was gathered stay.
+    pub fn place(&mut self, directory: Directory)
+        ensures directory { directory_of self.new ≡ directory }
+        ensures state { state_of self.new ≡ state_of self.old }
+        ensures number { number_of self.new ≡ number_of self.old }
+        ensures gathered { gathered self.new ≡ gathered self.old }
+    {
+        self.site.directory = directory;
+    }
+
     /// Takes a message, and gathers what it makes the gateway send. A message that no rule of a gateway takes is
     /// dropped.
     ///

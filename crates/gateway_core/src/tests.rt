@@ -1,7 +1,7 @@
 use super::*;
 use ring_map::Ring;
 use row_value::Scheme;
-use stab_base::{ClientNo, Node, Sequence, StoreNo, TableNo, Version};
+use stab_base::{Bytes, ClientNo, Node, Sequence, StoreNo, TableNo, Version};
 use std::alloc::Global;
 use std::test::Fail;
 use table_model::{
@@ -69,7 +69,7 @@ fn named(alloc: Global, table: TableNo, scheme: Scheme, name: &str) -> Result<Na
     Ok(NamedTable {
         table,
         scheme,
-        name: String::from_str(alloc, name)?,
+        name: Bytes::from_slice(alloc, name.as_bytes())?,
     })
 }
 

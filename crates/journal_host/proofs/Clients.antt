@@ -497,6 +497,12 @@ busy_is w c s at = by s.agenda ∙ sym (ap (λ (o : Option Client). has_work (cl
     by (Some []) = refl
     by (Some (task ∷ more)) = refl
 
+-- one that has some is up
+pub busy_up : {D : Type 0} (state : D → DiskState) (node : ClientNode D) (disk : ClientDisk) (agenda : Option (List ClientTask)) → IsClient state node (record { disk = disk; agenda = agenda })
+    → has_task agenda ≡ true → node.is_up ≡ true
+busy_up state node disk None t some = absurd cc
+busy_up state node disk (Some tasks) t some = t.at.0
+
 -- ---- messages
 
 module _ {D : Type 0} (state : D → DiskState) (w : World) (old new : ClientHost D) (c : ℕ) (message : Message) where

@@ -5,11 +5,13 @@ use Rattle.std.specs.Prelude.{filter, Option, Some, None}
 use Rattle.std.specs.Ordering.{nat_cmp}
 use Rattle.std.specs.BTreeMap as tree
 use Rattle.disk_trait.specs.Calls.{DiskState}
-use Rattle.disk_trait.specs.Fuse.{inner_of}
+use Rattle.disk_trait.specs.Fuse.{behind, inner_of}
 use Rattle.vault.specs.Standing.{disk_of}
 use Rattle.chunk_store.specs.Standing as chunks
 use Rattle.slot_store.specs.Standing as slots
 use Rattle.plan_log.specs.Standing as journals
+use Rattle.client_journal.specs.Plan.{plan_at_work}
+use Rattle.client_journal.specs.Standing.{devs, writes_of}
 use Rattle.stab_base.specs.declared.node.Node.TheVariants as nodes
 use Rattle.row_value.specs.declared.schema.Schema.{Schema}
 use Rattle.step_tables.specs.ClientMoves.{Client}
@@ -141,6 +143,15 @@ pub record RisenFaults {D : Type 0} (state : D → DiskState) (c : ℕ) (old new
 abbrev pub HavePlansBelow : {D : Type 0} → (D → DiskState) → ℕ → tree.BTreeMap ℕ (ClientNode D) → Type 0
 HavePlansBelow {D} state n clients =
     (c : ℕ) (node : ClientNode D) → tree.get nat_cmp clients c ≡ Some node → HasPlansBelow state n node
+
+-- the plan that a client's node is at work on
+abbrev pub plan_of : {D : Type 0} → (D → DiskState) → ClientNode D → ℕ
+plan_of state node = plan_at_work (devs (behind state) node.devs) (writes_of node.devs)
+
+-- this is it, of a client that is there
+abbrev pub IsPlanAt : {D : Type 0} → (D → DiskState) → Option (ClientNode D) → ℕ → Type 0
+IsPlanAt state None plan = ⊥
+IsPlanAt state (Some node) plan = plan ≡ plan_of state node
 
 -- ---- disks
 

@@ -19,13 +19,13 @@ ghost use Rattle.journal_host.specs.Asks.{move_of, asked_by, FitsIn, AreAsked, A
 ghost use Rattle.journal_host.specs.Calls.{IsMoved, IsCalled, Comes, Lists, Stays, HasCause, HasMoveCause};
 ghost use Rattle.journal_host.specs.Calls.{HasLuck, IsNumberCause, held_by, has_table};
 ghost use Rattle.journal_host.specs.Holds.{HoldsClients, AreClients, HasSchemas, AreToOpen, SameFaults, disks_at};
-ghost use Rattle.journal_host.specs.Holds.{faults_at, HavePlansBelow};
+ghost use Rattle.journal_host.specs.Holds.{faults_at, HavePlansBelow, IsPlanAt};
 ghost use Rattle.journal_host.specs.Opening.{HasJoinLuck};
 ghost use Rattle.journal_host.specs.Moves.{call_alone, take_alone, start_alone, has_work};
 
 use crate::asking::{Ask, Request, did, numbered};
 use crate::fault::ClientFault;
-use crate::hosted::{answered, call, crash, is_ready, link, list, start, work};
+use crate::hosted::{answered, call, crash, is_ready, link, list, plan_at, start, work};
 use crate::opening::joining;
 use crate::out::ClientOut;
 use client_node::{CallFault, ClientNode, RowHeld};
@@ -94,6 +94,19 @@ impl<D: Disk + Drop> ClientHost<D> {
         }
     }
 
+    /// The plan that the client is at work on; none where it has no write to do.
+    pub fn plan_at(&self, client: ClientNo) -> Option<u64>
+        requires { AreClients D.state self.now }
+        ensures busy { (w : AWorld) → HoldsClients D.state w self.now
+            → is_some result ≡ has_work (client_tasks (client_at w client)) }
+        ensures plan { IfSome result (IsPlanAt D.state (tree.get nat_cmp self.now.clients client)) }
+    {
+        match self.clients.get(&client) {
+            Some(node) => plan_at(node),
+            None => None,
+        }
+    }
+
     /// Whether the client takes a message now: it is there and up, its link isn't down, and it has no write to do.
     pub fn is_ready(&self, client: ClientNo) -> bool
         ensures { (w : AWorld) → HoldsClients D.state w self.now → result ≡ is_client_ready w client }
@@ -151,6 +164,7 @@ impl<D: Disk + Drop> ClientHost<D> {
     pub fn link(&mut self, client: ClientNo, up: bool) -> Answer
         ensures called { (w : AWorld) → HoldsClients D.state w self.old
             → IsCalled D.state self.old self.new (linked w client up (client_at w client)) result }
+        ensures outs { self.new.outs ≡ self.old.outs }
         ensures counted { SameFaults D.state self.old.clients self.new.clients }
         ensures plans { (n : ℕ) → HavePlansBelow D.state n self.old.clients
             → HavePlansBelow D.state n self.new.clients }

@@ -1,6 +1,6 @@
 //! Calls of one client's node, what it tells put behind what was told.
 ghost use Rattle.std.specs.Prelude.{◌≡◌, ◌⊎◌, ◌∷◌, ◌<◌, ◌++◌, ℕ, suc, Bool, [], Option, Some, true, false, not, ◌&&◌};
-ghost use Rattle.std.specs.Prelude.{Ok, IfOk, IfErr, OnErr, IsErrOf};
+ghost use Rattle.std.specs.Prelude.{Ok, IfOk, IfErr, OnErr, IsErrOf, IfSome, is_some};
 ghost use Rattle.std.specs.Vec.{vec_capacity, vec_len};
 ghost use Rattle.stab_base.specs.declared.node.Node.TheVariants as nodes;
 ghost use Rattle.table_model.specs.declared.line.Answer.TheVariants as answers;
@@ -16,7 +16,7 @@ ghost use Rattle.journal_host.specs.declared.fault.ClientFault.TheVariants as fa
 ghost use Rattle.journal_host.specs.Asks.{asked_by, FitsDisk, AreAsked, AsksSome, answered_as};
 ghost use Rattle.journal_host.specs.Calls.{IsNumberCause};
 ghost use Rattle.journal_host.specs.Holds.{IsHosted, outs_in, AreSameOuts, outbox_of, says_something, said};
-ghost use Rattle.journal_host.specs.Holds.{node_faults};
+ghost use Rattle.journal_host.specs.Holds.{node_faults, plan_of};
 ghost use Rattle.journal_host.specs.Phases.{SamePhases, MovesPhases, answer_in};
 ghost use Rattle.journal_host.specs.Steps.{IsTelling, HasTold, IsMade, IsListing, IsFallen, IsDropped};
 ghost use Rattle.journal_host.specs.Steps.{HasNodeCause};
@@ -64,6 +64,18 @@ pub(crate) fn is_ready<D: Disk + Drop>(node: &ClientNode<D>) -> bool
         → result ≡ (not cut && is_idle s.agenda) }
 {
     node.is_linked() && node.is_up() && !node.is_busy()
+}
+
+/// The plan that a client is at work on; none where it has no write to do.
+pub(crate) fn plan_at<D: Disk + Drop>(node: &ClientNode<D>) -> Option<u64>
+    requires { IsNode D.state node.now }
+    ensures busy { (s : Client) → IsClient D.state node.now s → is_some result ≡ has_task s.agenda }
+    ensures plan { IfSome result (λ plan. plan ≡ plan_of D.state node.now) }
+{
+    if node.is_busy() {
+        return Some(node.plan_at_work());
+    }
+    None
 }
 
 // Whether there is a fact or a message.

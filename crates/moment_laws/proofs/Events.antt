@@ -294,6 +294,7 @@ module _ (P : ℕ → Hosted → Type 0)
 
   pub step_all : (w : World) (event : Event) (lucks : Lucks) → All P w → All P (taken_part w event) → Fresh P w → All P (step w event lucks).world
   step_all w (events.Store number) lucks all first f = all
+  step_all w (events.Gate number) lucks all first f = all
   step_all w (events.Table table schema) lucks all first f = declared_all w table schema (first_luck lucks.calls) all f (hosted_at w table) refl
   step_all w (events.Client c gate tables) lucks all first f = joined_all w c tables (first_luck lucks.calls) all (client_at w c)
   step_all w (events.Write c table row x) lucks all first f = call_all w c (client.Write table row x) lucks.shape lucks.calls all (client_at w c)

@@ -472,6 +472,7 @@ AreIdle w loud = (number : ℕ) → has_node loud (nodes.Store number) ≡ false
 step_idle : (w : World) → IsFine w → (q : Quiet) → q.held ≡ w.holds → q.sent ≡ map (λ (p : Packet). p.to) w.packets → (event : Event) (lucks : Lucks) → AreIdle w q.loud
     → AreIdle (step w event lucks).world (loud_after q event (step w event lucks).answer)
 step_idle w f q held sent (events.Store number) lucks idle n quiet = store_idle w f n q.loud number idle quiet
+step_idle w f q held sent (events.Gate number) lucks idle n quiet = idle n quiet
 step_idle w f q held sent (events.Table table schema) lucks idle n quiet = declared_idle w f n table schema (first_luck lucks.calls) (idle n quiet) (hosted_at w table)
 step_idle w f q held sent (events.Client c gate tables) lucks idle n quiet = joined_idle w f n c tables (first_luck lucks.calls) (idle n quiet) (client_at w c)
 step_idle w f q held sent (events.Write c table row x) lucks idle n quiet = call_idle w f n c (client.Write table row x) lucks.shape lucks.calls (idle n quiet)

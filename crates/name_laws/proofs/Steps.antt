@@ -538,6 +538,7 @@ stores_by w other = w.stores
 
 pub step_stepped : (w : World) (event : Event) (lucks : Lucks) → IsFine w → Stepped w (stores_by w event) (holds_by w event lucks) (schemas_by w event lucks) (step w event lucks)
 step_stepped w (events.Store number) lucks f = silent_stepped w (with_store number w) (with_store_fine number w f) refl refl
+step_stepped w (events.Gate number) lucks f = silent_stepped w w f refl refl
 step_stepped w (events.Table table schema) lucks f = declared_stepped w table schema (first_luck lucks.calls) f (hosted_at w table) refl
 step_stepped w (events.Client c gate tables) lucks f = joined_stepped w c tables (first_luck lucks.calls) f (client_at w c)
 step_stepped w (events.Write c table row x) lucks f = call_stepped w c (client.Write table row x) lucks.shape lucks.calls f (client_at w c)

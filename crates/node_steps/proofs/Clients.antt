@@ -90,6 +90,18 @@ module _ {D : Type 0} (state : D → DiskState) (w : moves.World) (old : World D
     numbered = record { both = h.numbered.both; tables = h.numbered.tables; clients = λ q there. h.numbered.clients q (sym (keeps.clients q) ∙ there) };
   }
 
+  -- where nothing waits, nobody need take it over
+  pub held_quiet : mid.outs.items ≡ [] → Holds state s.world (record old { clients = mid })
+  held_quiet none = subst (λ (x : moves.World). Holds state x (record old { clients = mid })) (sym keeps.same) (record {
+    schemas = h.schemas;
+    store = store_stays state w old.store s.world.clients s.world.packets w.holds s.world.cuts s.world.phases h.store;
+    clients = subst (λ (x : moves.World). HoldsClients state x mid) keeps.same k.held;
+    store_told = h.store_told;
+    clients_told = none;
+    held = h.held;
+    numbered = record { both = h.numbered.both; tables = h.numbered.tables; clients = λ q there. h.numbered.clients q (sym (keeps.clients q) ∙ there) };
+  })
+
   pub told_one : (new : World D) (told : Told) → HasToldPairs state (record old { clients = mid }) new (answer_of answer) pairs told → IsDone state w s told new
   told_one new told t = record {
     lines_are = t.lines_are ∙ (ap (λ (o : Option facts.Answer). map AnswerLine (option_to_list o) ++ map PairLine pairs) (sym k.answer_is)

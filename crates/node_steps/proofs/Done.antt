@@ -6,12 +6,14 @@ use Rattle.std.specs.BTreeMap as tree
 use Rattle.disk_trait.specs.Calls.{DiskState}
 use Rattle.stab_base.specs.declared.node.Node.{Node}
 use Rattle.row_value.specs.declared.schema.Schema.{Schema}
+use Rattle.table_model.specs.declared.event.Event.{Event}
+use Rattle.table_model.specs.declared.event.Event.TheVariants as events
 use Rattle.table_model.specs.declared.line.Answer.{Answer}
 use Rattle.step_tables.specs.Facts.{AnswerLine}
 use Rattle.step_tables.specs.Facts as facts
 use Rattle.step_tables.specs.Lines.{answer_of}
 use Rattle.step_tables.specs.ClientMoves.{Client}
-use Rattle.world_tables.specs.World.{Lucks, no_lucks, Moved, WorldStep, owner_of, answering, answered, refused, unless_down, is_down, has_node}
+use Rattle.world_tables.specs.World.{Lucks, no_lucks, Moved, WorldStep, owner_of, answering, answered, refused, unless_down, is_down, has_node, step}
 use Rattle.world_tables.specs.World.{schema_at, client_at}
 use Rattle.world_tables.specs.World as moves
 use Rattle.store_host.specs.declared.host.StoreHost.{StoreHost}
@@ -45,6 +47,13 @@ module _ {D : Type 0} (state : D → DiskState) (w : moves.World) (world : World
       → Comes state w (λ lucks. answered w a) result world
   stays a (Err e) k = tt
   stays a (Ok told) k = (no_lucks, record { lines_are = k.lines_are; outs_are = no_outs_told (owner_of w) told.outs k.none; held = h; tables = λ t. refl; clients = λ c. refl })
+
+  -- a gateway that is declared
+  pub gate_silent : (event : Event) (gate : ℕ) → event ≡ events.Gate gate → (told : Told) → IsOnly [] told → Comes state w (step w event) (Ok told) world
+  gate_silent event gate is told only = subst (λ (e : Event). Comes state w (step w e) (Ok told) world) (sym is) (
+    no_lucks,
+    record { lines_are = only.lines_are; outs_are = no_outs_told (owner_of w) told.outs only.none; held = h; tables = λ t. refl; clients = λ c. refl },
+  )
 
 -- ---- another step that is the same
 

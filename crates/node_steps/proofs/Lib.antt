@@ -18,3 +18,4 @@ pub mod Closing
 pub mod Rows
 pub mod Starting
 pub mod Returned
+pub mod Linked

@@ -3,6 +3,7 @@ pub mod Told
 pub mod Nodes
 pub mod Numbers
 pub mod Holds
+pub mod Links
 pub mod Outs
 pub mod Faults
 pub mod Closes

@@ -1,17 +1,20 @@
 //! What is done to a client: its next write, all its writes, a crash, a start, its link.
-ghost use Rattle.std.specs.Prelude.{◌≡◌, ◌≢◌, ℕ, true, Ok, IfOk, IfErr};
+ghost use Rattle.std.specs.Prelude.{◌≡◌, ◌≢◌, ℕ, true, Some, Ok, IfOk, IfErr};
 ghost use Rattle.stab_base.specs.declared.node.Node.TheVariants as nodes;
+ghost use Rattle.step_tables.specs.ClientMoves.{Client as AClient};
 ghost use Rattle.step_tables.specs.Lines.{answer_of};
 ghost use Rattle.table_model.specs.declared.event.Event.TheVariants as events;
 ghost use Rattle.table_model.specs.declared.line.Answer.{Answer as AnAnswer};
 ghost use Rattle.world_tables.specs.World.{World as AWorld, step, worked, all_worked, crashed, started, is_down};
+ghost use Rattle.world_tables.specs.World.{client_at};
 ghost use Rattle.world_tables.specs.Faults.{fails_crash};
 ghost use Rattle.journal_host.specs.declared.fault.ClientFault.TheVariants as fault;
 ghost use Rattle.node_steps.specs.declared.fault.WorldFault.TheVariants.{Memory};
 ghost use Rattle.node_steps.specs.Calls.{Comes, HasToldPairs, HasToldClients};
-ghost use Rattle.node_steps.specs.Faults.{AreCounted, ComesCounted};
+ghost use Rattle.node_steps.specs.Faults.{AreCounted, ComesCounted, all_faults};
 ghost use Rattle.node_steps.specs.Holds.{Holds};
 ghost use Rattle.node_steps.specs.Steps.{HavePlansBelow};
+ghost use Rattle.node_steps.specs.Links.{link_set};
 
 use crate::fault::WorldFault;
 use crate::told::{Outs, Told, list};
@@ -139,5 +142,16 @@ impl<D: Disk + Drop> World<D> {
     {
         let answer = self.clients.link(client, up);
         self.tell_clients(answer)
+    }
+
+    /// Takes the link of a client that is up up or down, without an answer. It takes no memory.
+    pub fn set_link(&mut self, client: ClientNo, up: bool)
+        ensures held { (w : AWorld) (node : AClient) → Holds D.state w self.old → client_at w client ≡ Some node
+            → Holds D.state (link_set client up w) self.new }
+        ensures store { self.new.store ≡ self.old.store }
+        ensures faults { all_faults D.state self.new ≡ all_faults D.state self.old }
+        ensures plans { (n : ℕ) → HavePlansBelow D.state n self.old → HavePlansBelow D.state n self.new }
+    {
+        let _answer = self.clients.link(client, up);
     }
 }

@@ -1,11 +1,16 @@
 //! Reads of the nodes: what a table has of a row, what a client has of it, which of them take messages now.
-ghost use Rattle.std.specs.Prelude.{◌≡◌, ℕ, suc, true, option_copied, option_map, IfOk, IfErr};
+ghost use Rattle.std.specs.Prelude.{◌≡◌, ℕ, suc, true, option_copied, option_map, IfOk, IfErr, IfSome, is_some};
+ghost use Rattle.std.specs.Ordering.{nat_cmp};
+ghost use Rattle.std.specs.BTreeMap as tree;
 ghost use Rattle.step_tables.specs.Facts as facts;
 ghost use Rattle.world_tables.specs.World.{World as AWorld, hosted_at, client_at, schema_at, store_falls, client_falls};
-ghost use Rattle.world_tables.specs.World.{owner_of, Hosted as AHosted};
+ghost use Rattle.world_tables.specs.World.{owner_of, client_tasks, busy_table, Hosted as AHosted};
 ghost use Rattle.world_tables.specs.Ready.{is_table_ready, is_client_ready, is_idle_table};
+ghost use Rattle.store_host.specs.Calls.{busy_version};
 ghost use Rattle.store_host.specs.Holds.{AreLeft, is_up_for, is_up_there, owner_at};
 ghost use Rattle.journal_host.specs.Calls.{held_by, has_table};
+ghost use Rattle.journal_host.specs.Holds.{IsPlanAt};
+ghost use Rattle.journal_host.specs.Moves.{has_work};
 ghost use Rattle.node_steps.specs.declared.fault.WorldFault.TheVariants.{Memory};
 ghost use Rattle.node_steps.specs.Calls.{HasTold, HasToldClients};
 ghost use Rattle.node_steps.specs.Holds.{Holds};
@@ -17,7 +22,7 @@ use crate::told::Read;
 use crate::world::World;
 use client_node::{CallFault, RowHeld};
 use disk_trait::Disk;
-use row_value::{ClientNo, RowId, Schema, TableNo};
+use row_value::{ClientNo, RowId, Schema, TableNo, Version};
 use stab_base::{Node, StoreNo};
 use store_node::{NodeFault, WholeRow};
 use table_model::{Answer, History, Refusal};
@@ -29,6 +34,13 @@ impl<D: Disk + Drop> World<D> {
         ensures held { (w : AWorld) → Holds D.state w self.now → result ≡ owner_of w table }
     {
         self.store.owner(table)
+    }
+
+    /// Whether a client is there.
+    pub fn has_client(&self, client: ClientNo) -> bool
+        ensures { (w : AWorld) → Holds D.state w self.now → result ≡ is_some (client_at w client) }
+    {
+        self.clients.has(client)
     }
 
     /// Whether a table is there and up.
@@ -63,6 +75,31 @@ impl<D: Disk + Drop> World<D> {
         ensures { (w : AWorld) → Holds D.state w self.now → result ≡ is_client_ready w client }
     {
         self.clients.is_ready(client)
+    }
+
+    /// The plan that a client is at work on; none where it has no write to do.
+    pub fn plan_at(&self, client: ClientNo) -> Option<u64>
+        requires { (w : AWorld) × Holds D.state w self.now }
+        ensures busy { (w : AWorld) → Holds D.state w self.now
+            → is_some result ≡ has_work (client_tasks (client_at w client)) }
+        ensures plan { IfSome result (IsPlanAt D.state (tree.get nat_cmp self.now.clients.clients client)) }
+    {
+        self.clients.plan_at(client)
+    }
+
+    /// A Store's table of least number that has writes to do.
+    pub fn busy_table(&self, store: StoreNo) -> Option<TableNo>
+        ensures { (w : AWorld) → Holds D.state w self.now → result ≡ busy_table w store }
+    {
+        self.store.busy_table(store)
+    }
+
+    /// The version of a table's next write; 0 where it has none.
+    pub fn busy_version(&self, table: TableNo) -> Version
+        requires { (w : AWorld) × Holds D.state w self.now }
+        ensures { (w : AWorld) → Holds D.state w self.now → result ≡ busy_version (hosted_at w table) }
+    {
+        self.store.busy_version(table)
     }
 
     /// The schema of a declared table.

@@ -94,6 +94,8 @@ impl<D: Disk + Drop> World<D> {
             Event::WorkAll { node } => self.work_all(*node),
             Event::Crash { node, calls, pick } => self.crash(*node, *calls, *pick),
             Event::Start { node } => self.start(*node),
+            // The nodes make nothing of a gateway.
+            Event::Gate { .. } => Ok(self.silent()),
             // Calls are made above, and no other event is left.
             _ => unreachable!(),
         }

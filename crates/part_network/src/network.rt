@@ -5,8 +5,10 @@ ghost use Rattle.step_tables.specs.Lines.{line_of};
 ghost use Rattle.step_tables.specs.Travels.{message_of};
 ghost use Rattle.wire_tables.specs.Wire.{PartPacket, sent_lines};
 ghost use Rattle.message_frames.specs.Frames.{HasFrame};
+ghost use Rattle.message_parts.specs.Parts.{message_at};
 ghost use Rattle.message_parts.specs.Splits.{may_split};
-ghost use Rattle.part_network.specs.Packets.{packet_of, packet_with, frame_lengths, most_bytes, bytes_of, HasFrames};
+ghost use Rattle.part_network.specs.Packets.{packet_of, packet_with, frame_length, frame_lengths, most_bytes};
+ghost use Rattle.part_network.specs.Packets.{bytes_of, HasFrames};
 ghost use Rattle.part_network.specs.Packets.{HasPackets, read_of, part_in, part_with, sent_parts, told, IsFault};
 
 use crate::fault::NetworkFault;
@@ -85,6 +87,15 @@ impl Network {
             Err(FrameError::Memory) => Err(AllocError),
             Err(FrameError::NoMessage) => unreachable!(),
         }
+    }
+
+    /// The length of a packet's frame.
+    pub fn frame_len(&self, number: u64) -> Option<u64>
+        ensures { (ps : List PartPacket) → HasPackets self.now ps
+            → result ≡ option_map (λ (p : PartPacket). frame_length (message_at p.part)) (slice_get ps number) }
+    {
+        let packet = self.get(number)?;
+        Some(packet.frame.len() as u64)
     }
 
     // Sends these parts.

@@ -79,6 +79,9 @@ fn packets_are_counted(rt: HostRuntime) -> Result<(), Fail> {
     assert_eq!(rt; network.sent(), 2);
     // 5 bytes of length and kind, and 24 or 33 of the body
     assert_eq!(rt; network.bytes(), 67);
+    assert_eq!(rt; network.frame_len(0), Some(29));
+    assert_eq!(rt; network.frame_len(1), Some(38));
+    assert_eq!(rt; network.frame_len(2), None);
     assert_eq!(rt; network.address(0), Some(STORE));
     assert_eq!(rt; network.address(1), Some(CLIENT));
     assert_eq!(rt; network.address(2), None);

@@ -398,6 +398,7 @@ module _ (size : ℕ → ℕ) where
 
     pub step_named : (event : Event) (lucks : Lucks) → FitsFirst event → Named (step w event lucks).world
     step_named (events.Store number) lucks f = stores_named size w (number ∷ w.stores) (joining number w.downs) k
+    step_named (events.Gate number) lucks f = k
     step_named (events.Table table schema) lucks f = declared_named table schema (first_luck lucks.calls) (hosted_at w table) refl f
     step_named (events.Client c gate tables) lucks f = joined_named c tables (first_luck lucks.calls) (client_at w c)
     step_named (events.Write c table row x) lucks f = call_named w c (client.Write table row x) lucks.shape lucks.calls k (quiet_takes c) (client_at w c)

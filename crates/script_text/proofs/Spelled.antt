@@ -274,6 +274,7 @@ module _ (names : Names) where
 
   pub spelled : (ws : List (List ℕ)) (e : Event) → SpelledBy names ws e → words_in names ws ≡ Ok (Ok (Some e))
   spelled ws (events.Store store) h = store-right ws store h
+  spelled ws (events.Gate gate) h = absurd h
   spelled ws (events.Table table schema) h = table-right ws table schema h
   spelled ws (events.Client client gate tables) h = client-right ws client gate tables h
   spelled ws (events.Write client table row content) h = write-right ws client table row content h

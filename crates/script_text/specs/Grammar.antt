@@ -328,6 +328,7 @@ SpellsCrash names words node calls pick =
 
 abbrev pub SpelledBy : Names → List (List ℕ) → Event → Type 0
 SpelledBy names words (events.Store store) = SpellsStore names words store
+SpelledBy names words (events.Gate gate) = ⊥
 SpelledBy names words (events.Table table schema) = SpellsTable names words table schema
 SpelledBy names words (events.Client client gate tables) = SpellsClient names words client gate tables
 SpelledBy names words (events.Write client table row content) = SpellsWrite names words client table row content

@@ -36,6 +36,7 @@ no_names = record { stores = []; tables = []; names = []; clients = []; started 
 -- the event's declaration is added, or that an event was read
 abbrev pub with_event : Names → Event → Names
 with_event n (events.Store store) = record n { stores = insert_key nat_cmp n.stores store }
+with_event n (events.Gate gate) = n
 with_event n (events.Table table schema) =
     record n {
       tables = insert_entry nat_cmp n.tables table schema;

@@ -158,6 +158,7 @@ impl Declared {
                 let _added = self.stores.insert(*store)?;
                 Ok(())
             }
+            Event::Gate { .. } => Ok(()),
             Event::Table { table, schema } => self.add_table(*table, schema),
             Event::Client { client, .. } => {
                 let _added = self.clients.insert(*client)?;

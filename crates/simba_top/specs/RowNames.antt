@@ -21,6 +21,7 @@ row_in (events.Sum client table row) = Some (table, row)
 row_in (events.Resolve client table row seen choice) = Some (table, row)
 row_in (events.StoreShow table row) = Some (table, row)
 row_in (events.Store store) = None
+row_in (events.Gate gate) = None
 row_in (events.Table table schema) = None
 row_in (events.Client client gate tables) = None
 row_in (events.Link client up) = None

@@ -33,6 +33,7 @@ fn row_in(event: &Event) -> Option<(TableNo, &RowId)>
         | Event::Resolve { table, row, .. }
         | Event::StoreShow { table, row } => Some((*table, row)),
         Event::Store { .. }
+        | Event::Gate { .. }
         | Event::Table { .. }
         | Event::Client { .. }
         | Event::Link { .. }

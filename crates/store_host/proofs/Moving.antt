@@ -38,6 +38,7 @@ use Rattle.store_node.specs.Calls.{IsAtWork, IsSpent, IsRowAt}
 use Rattle.store_node.specs.Reading.{shown_of}
 use Rattle.store_node.specs.Node.{IsTable, Fits, has_task}
 use Rattle.store_node.specs.Node.{own_faults}
+use Rattle.store_node.specs.declared.node.TableNode.{TableNode}
 use Rattle.world_tables.specs.World.{World, Outbox, Packet, Moved, still, and_then, and_unless, failing, schema_at, hosted_at, owner_of, is_fault, packets_from, after_table, table_step}
 use Rattle.world_tables.specs.World.{move_hosted, move_table, scheme_in, chunk_in}
 use Rattle.world_tables.specs.World.{table_falls, tables_fall, table_starts, tables_start, start_hosted, declared_late, is_at_work, busy_step, next_step, tasks_in, hosted_tasks}
@@ -46,7 +47,7 @@ use Rattle.store_host.specs.declared.hosted.Hosted.{Hosted}
 use Rattle.store_host.specs.declared.hosted.TableOut.{TableOut}
 use Rattle.store_host.specs.Holds.{IsHosted, HostedThere, HoldsTables, IsUpNode, IsUpTable, behind_step, outs_in, says_something, said_by, faults_in, faults_at, SameFaults, RisenFaults}
 use Rattle.store_host.specs.Steps.{HasTold, HasNodeCause, moved_at, started_by, HasTaken, HasNodeTakeCause, HasShown, HasGiven}
-use Rattle.store_host.specs.Calls.{AreMoved, restart_moves, HasCause, FitsIn, AreTaken, HasTakeCause, AreShown, AreGiven, table_in}
+use Rattle.store_host.specs.Calls.{version_by, AreMoved, restart_moves, HasCause, FitsIn, AreTaken, HasTakeCause, AreShown, AreGiven, table_in}
 use Rattle.store_host.proofs.Froms.{IsFrom, SameDisk, from_itself, from_then, same_then, start_from}
 use Rattle.store_host.proofs.Addressed.{AreAddressed, packets_same, step_to}
 use Rattle.store_host.proofs.Maps.{moved_tables, found, not_found, at_same}
@@ -65,6 +66,23 @@ at_work w table disk (Some (task ∷ tasks)) history made e = rw e refl
 
 pub at_work_is : (w : World) (table : ℕ) (hosted : world.Hosted) → hosted_at w table ≡ Some hosted → is_at_work w table ≡ has_task hosted.store.agenda
 at_work_is w table hosted e = at_work w table hosted.store.disk hosted.store.agenda hosted.history hosted.made e
+
+-- one that has some is up
+pub busy_up : {D : Type 0} (state : D → DiskState) (node : TableNode D) (disk : StoreDisk) (agenda : Option (List StoreTask)) → IsTable state node (record { disk = disk; agenda = agenda })
+    → has_task agenda ≡ true → node.is_up ≡ true
+busy_up state node disk None t some = absurd cc
+busy_up state node disk (Some tasks) t some = t.at.0
+
+-- the version of the next write
+pub next_version : (disk : StoreDisk) (agenda : Option (List StoreTask)) (version : ℕ) → IsAtWork disk agenda version → version ≡ version_by disk agenda
+next_version disk None version is = absurd is
+next_version disk (Some []) version is = absurd is
+next_version disk (Some (task ∷ tasks)) version is = is
+
+pub no_version : (disk : StoreDisk) (agenda : Option (List StoreTask)) → has_task agenda ≡ false → 0 ≡ version_by disk agenda
+no_version disk None none = refl
+no_version disk (Some []) none = refl
+no_version disk (Some (task ∷ tasks)) none = absurd cc
 
 pub none_at_work : (w : World) (table : ℕ) → hosted_at w table ≡ None → is_at_work w table ≡ false
 none_at_work w table e = rw e refl

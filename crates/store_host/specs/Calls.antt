@@ -1,5 +1,5 @@
 -- What the calls of the Stores with their tables promise, in the moves of the world.
-use Rattle.std.specs.Prelude.{◌≡◌, ◌⊎◌, ◌↔◌, ℕ, Bool, false, List, [], ◌++◌, Option, Some, None}
+use Rattle.std.specs.Prelude.{◌≡◌, ◌⊎◌, ◌↔◌, ℕ, Bool, false, List, [], ◌∷◌, ◌++◌, Option, Some, None}
 use Rattle.std.specs.Prelude.{option_map, Result, Ok, OnOk, OnErr, IfOk, IfErr, IsErrOf}
 use Rattle.std.specs.BTreeMap as tree
 use Rattle.disk_trait.specs.Calls.{DiskState}
@@ -11,7 +11,7 @@ use Rattle.row_store.specs.Spelling.{IsClient}
 use Rattle.step_tables.specs.Messages.{Luck, table_of}
 use Rattle.step_tables.specs.Messages as messages
 use Rattle.step_tables.specs.Store.{current_of}
-use Rattle.step_tables.specs.StoreMoves.{Take}
+use Rattle.step_tables.specs.StoreMoves.{Take, StoreDisk, StoreTask, version_at}
 use Rattle.step_tables.specs.Travels.{message_of}
 use Rattle.step_tables.specs.declared.message.Message.{Message}
 use Rattle.step_tables.specs.declared.message.Message.TheVariants as kinds
@@ -157,6 +157,18 @@ pub record ShowsRow {D : Type 0} (state : D → DiskState) (w : World) (table : 
       → IfOk result (λ shown. shown ≡ option_map shown_of (current_of hosted.store.disk.items row))
   pub stays : (IsErrOf result Disk → ⊥) → HoldsStore state w new
   pub fallen : IsErrOf result Disk → IsMoved state old new (store_falls (owner_of w table) w)
+
+-- ---- the version at work
+
+-- the version of a table's next write; 0 where it has none
+abbrev pub version_by : StoreDisk → Option (List StoreTask) → ℕ
+version_by disk (Some (task ∷ tasks)) = version_at disk task.change
+version_by disk other = 0
+
+-- the same of a table that may be there
+abbrev pub busy_version : Option world.Hosted → ℕ
+busy_version None = 0
+busy_version (Some hosted) = version_by hosted.store.disk hosted.store.agenda
 
 -- ---- rows whole
 

@@ -24,19 +24,19 @@ ghost use Rattle.store_host.specs.Holds.{is_up_at, is_up_for, is_up_there};
 ghost use Rattle.store_host.specs.Joining.{risen};
 ghost use Rattle.store_host.specs.Steps.{new_table, faults_of};
 ghost use Rattle.store_host.specs.Calls.{AreMoved, IsMoved, HasCause, HasLuck, Takes, HasTakeCause, ShowsRow, GivesRow};
-ghost use Rattle.store_host.specs.Calls.{restart_moves, table_in};
+ghost use Rattle.store_host.specs.Calls.{restart_moves, table_in, busy_version};
 
 use crate::hosted::{Hosted, TableOut};
 use crate::joining::{any_down, owner_in, renew_all, renew_at, settle_all};
 use crate::store::StoreState;
 use crate::tables::{
-    any_unmade, crash_busy, deliver_to, first_busy, halt_all, is_busy_at, restart, row_at, show_at,
-    work_at,
+    any_unmade, busy_version_at, crash_busy, deliver_to, first_busy, halt_all, is_busy_at, restart,
+    row_at, show_at, work_at,
 };
 use disk_trait::Disk;
 use ring_map::Ring;
 use row_value::Schema;
-use stab_base::{Names, Node, RowId, Sequence, Step, StoreNo, TableNo};
+use stab_base::{Names, Node, RowId, Sequence, Step, StoreNo, TableNo, Version};
 use std::alloc::Global;
 use std::collections::BTreeMap;
 use step_tables::Message;
@@ -257,14 +257,22 @@ impl<D: Disk + Drop> StoreHost<D> {
         }
     }
 
-    // A Store's table of least number that has writes to do.
-    fn busy(&self, store: StoreNo) -> Option<TableNo>
+    /// A Store's table of least number that has writes to do.
+    pub fn busy_table(&self, store: StoreNo) -> Option<TableNo>
         ensures { (w : AWorld) → HoldsStore D.state w self.now → result ≡ busy_table w store }
     {
         match self.stores.get(&store) {
             Some(state) => first_busy(state.tables.as_slice(), &self.tables),
             None => None,
         }
+    }
+
+    /// The version of a table's next write; 0 where it has none.
+    pub fn busy_version(&self, table: TableNo) -> Version
+        requires { IsStore D.state self.now }
+        ensures { (w : AWorld) → HoldsStore D.state w self.now → result ≡ busy_version (hosted_at w table) }
+    {
+        busy_version_at(&self.tables, table)
     }
 
     /// Does the next write of the Store's table of least number that has any; what it is called, `Idle` where there is
@@ -288,7 +296,7 @@ impl<D: Disk + Drop> StoreHost<D> {
         ensures left { (w : AWorld) → HoldsStore D.state w self.old
             → AreLeft D.state D.images w self.old.tables self.new.tables }
     {
-        let Some(table) = self.busy(store) else {
+        let Some(table) = self.busy_table(store) else {
             return Ok(Step::Idle);
         };
         match work_at(&mut self.tables, &mut self.outs, table) {
@@ -319,7 +327,7 @@ impl<D: Disk + Drop> StoreHost<D> {
             → AreLeft D.state D.images w self.old.tables self.new.tables }
     {
         for count in 0..u64::MAX {
-            let Some(_table) = self.busy(store) else {
+            let Some(_table) = self.busy_table(store) else {
                 return Ok(count);
             };
             self.work(store)?;
@@ -442,7 +450,7 @@ impl<D: Disk + Drop> StoreHost<D> {
         ensures down { is_up_at self.new store ≡ false }
         ensures outs { self.new.outs ≡ self.old.outs }
     {
-        let busy = self.busy(store);
+        let busy = self.busy_table(store);
         crash_busy(busy, &mut self.tables, calls, pick);
         self.fall(store);
     }

@@ -4,24 +4,25 @@ ghost use Rattle.std.specs.Prelude.{IsSome, [], ◌∷◌, ◌++◌, if◌then�
 ghost use Rattle.std.specs.BTreeMap as tree;
 ghost use Rattle.std.specs.Ordering.{nat_cmp};
 ghost use Rattle.std.specs.List.{find};
-ghost use Rattle.step_tables.specs.StoreMoves.{Work};
+ghost use Rattle.step_tables.specs.StoreMoves.{TableStore, Work};
 ghost use Rattle.step_tables.specs.Messages as messages;
 ghost use Rattle.step_tables.specs.Messages.{Luck};
 ghost use Rattle.store_node.specs.declared.fault.NodeFault.TheVariants.{Disk as DiskFailed, Memory};
-ghost use Rattle.world_tables.specs.World.{World as AWorld, is_at_work, busy_step, move_table};
+ghost use Rattle.store_node.specs.Node.{IsNode, IsTable};
+ghost use Rattle.world_tables.specs.World.{World as AWorld, is_at_work, busy_step, hosted_at, move_table};
 ghost use Rattle.world_tables.specs.World.{table_falls, tables_fall, table_starts, tables_start};
 ghost use Rattle.store_host.specs.Holds.{HoldsTables, AreTables, IsUpTable, SameFaults, AreLeft, AreStill};
 ghost use Rattle.store_host.specs.Calls.{AreMoved, HasCause, AreCrashed, AreTaken, HasTakeCause, AreShown, table_in};
-ghost use Rattle.store_host.specs.Calls.{AreGiven, restart_moves};
+ghost use Rattle.store_host.specs.Calls.{AreGiven, restart_moves, version_by, busy_version};
 ghost use Rattle.store_host.specs.Joining.{any_unmade, kept_by, unmade_in};
 
 use crate::hosted::{Hosted, TableOut};
 use disk_trait::Disk;
-use stab_base::{Node, RowId, Sequence, Step, StoreNo, TableNo};
+use stab_base::{Node, RowId, Sequence, Step, StoreNo, TableNo, Version};
 use std::alloc::Global;
 use std::collections::BTreeMap;
 use step_tables::Message;
-use store_node::{NodeFault, ShownRow, WholeRow, table_of};
+use store_node::{NodeFault, ShownRow, TableNode, WholeRow, table_of};
 use table_model::Tables;
 
 /// Whether a table has writes to do.
@@ -35,6 +36,32 @@ pub(crate) fn is_busy_at<D: Disk + Drop>(
     match tables.get(&table) {
         Some(hosted) => hosted.node.is_busy(),
         None => false,
+    }
+}
+
+// The version of a table's next write; 0 where it has none.
+fn version_in<D: Disk + Drop>(node: &TableNode<D>) -> Version
+    requires { IsNode D.state node.now }
+    ensures { (s : TableStore) → IsTable D.state node.now s → result ≡ version_by s.disk s.agenda }
+{
+    if node.is_busy() {
+        return node.version_at_work();
+    }
+    0
+}
+
+/// The version of a table's next write; 0 where it has none.
+pub(crate) fn busy_version_at<D: Disk + Drop>(
+    tables: &BTreeMap<TableNo, Hosted<D>>,
+    table: TableNo,
+) -> Version
+    requires { AreTables D.state tables.now }
+    ensures { (w : AWorld) → HoldsTables D.state w tables.now
+        → result ≡ busy_version (hosted_at w table) }
+{
+    match tables.get(&table) {
+        Some(hosted) => version_in(&hosted.node),
+        None => 0,
     }
 }
 

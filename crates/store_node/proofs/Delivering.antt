@@ -25,8 +25,8 @@ use Rattle.device_laws.specs.Stands.{Stands, StandsEntry, Follows, IsWriteOf}
 use Rattle.store_node.specs.declared.fault.NodeFault.{NodeFault}
 use Rattle.store_node.specs.declared.fault.NodeFault.TheVariants.{NoRow, Busy, Spent, Disk, Memory}
 use Rattle.store_node.specs.declared.node.TableNode.{TableNode}
-use Rattle.store_node.specs.Node.{IsWorking, IsTable, IsNode, told_by, sent_by, LeavesEither}
-use Rattle.store_node.specs.Calls.{IsBehind, Stays, Answers, Delivers, IsTaken, IsSpent, step_at}
+use Rattle.store_node.specs.Node.{IsWorking, IsTable, IsNode, told_by, sent_by, LeavesEither, has_task}
+use Rattle.store_node.specs.Calls.{IsBehind, Stays, Answers, Delivers, IsTaken, IsSpent, IsAtWork, step_at}
 use Rattle.store_node.proofs.Following.{follows_now, no_task, no_write}
 use Rattle.store_node.proofs.Working.{still_rows}
 
@@ -94,6 +94,13 @@ module _ {D : Type 0} (state : D → DiskState) (images : D → ℕ → List ℕ
     where
       work : version ≡ version_at disk task.change
       work = is ∙ at_work_is node.schema (devs st node.devs) (writes_of node.devs) disk task tasks t.at.1.follows
+
+  -- the version that the devices tell is that of the first task
+  pub works_on : (node : TableNode D) (disk : StoreDisk) (agenda : Option (List StoreTask)) → IsTable state node (at disk agenda) → has_task agenda ≡ true → (version : ℕ) → version ≡ at_work (devs st node.devs) (writes_of node.devs)
+      → IsAtWork disk agenda version
+  works_on node disk None t some version is = absurd cc
+  works_on node disk (Some []) t some version is = absurd cc
+  works_on node disk (Some (task ∷ tasks)) t some version is = is ∙ at_work_is node.schema (devs st node.devs) (writes_of node.devs) disk task tasks t.at.1.follows
 
   -- ---- at rest
 

@@ -19,7 +19,7 @@ ghost use Rattle.store_node.specs.Due.{fact_of};
 ghost use Rattle.store_node.specs.Kept.{AreKept};
 ghost use Rattle.store_node.specs.Node.{IsTable, IsNode, IsSame, told_by, sent_by, nothing_stored, has_task};
 ghost use Rattle.store_node.specs.Calls.{Works, Crashes, Declares, DeclaresLate, Recovers, Starts, Falls, Fell};
-ghost use Rattle.store_node.specs.Calls.{Answers, Delivers, Shows, Gives, IsSpentOn};
+ghost use Rattle.store_node.specs.Calls.{Answers, Delivers, Shows, Gives, IsSpentOn, IsAtWork};
 ghost use Rattle.store_node.specs.Fault.{fault_of};
 ghost use Rattle.store_node.specs.Halts.{Halts};
 ghost use Rattle.store_node.specs.Taking.{refused_by, step_for};
@@ -38,7 +38,7 @@ use crate::told::StoreFact;
 use disk_trait::{Disk, FuseDisk};
 use row_pieces::is_spelled;
 use row_value::{Schema, Sequence};
-use stab_base::{Names, Node, RowId, Step, StoreNo, TableNo};
+use stab_base::{Names, Node, RowId, Step, StoreNo, TableNo, Version};
 use std::alloc::Global;
 use step_tables::{Addressed, Message, PullRequest, SyncRequest, TornRowRequest};
 use store_commit::{CommitFault, TableDevs};
@@ -166,6 +166,16 @@ impl<D: Disk + Drop> TableNode<D> {
     {
         let is_idle = self.devs.idle();
         !is_idle
+    }
+
+    /// The version of the next write.
+    pub fn version_at_work(&self) -> Version
+        requires node { IsNode D.state self.now }
+        requires up { self.now.is_up ≡ true }
+        ensures { (s : TableStore) → IsTable D.state self.now s → has_task s.agenda ≡ true
+            → IsAtWork s.disk s.agenda result }
+    {
+        self.devs.at_work()
     }
 
     /// The names of the chunks on the device, in rising order: those that rows name, and those that are left.

@@ -6,12 +6,16 @@ use stab_base::Node;
 /// The tables that a client opens, in the order in which it names them.
 pub type Tables = Sequence<TableNo>;
 
-/// One line of a script. The first three are declarations.
+/// One line of a script. The first four are declarations.
 #[derive(Debug, Drop)]
 pub enum Event {
     /// There is a Store of this number.
     Store {
         store: StoreNo,
+    },
+    /// There is a gateway of this number.
+    Gate {
+        gate: GateNo,
     },
     /// There is a live table.
     Table {

@@ -338,6 +338,7 @@ step_grows w (events.Store number) lucks plain = record {
   clients = λ c other. joins_self is_client_up (client_at w c);
 }
 step_grows w (events.Table table schema) lucks plain = declared_grows w table schema nobody (first_luck lucks.calls) (hosted_at w table) refl
+step_grows w (events.Gate number) lucks plain = grows_self nobody w
 step_grows w (events.Client c gate tables) lucks plain = joined_grows nobody w c tables (first_luck lucks.calls) (client_at w c) refl
 step_grows w (events.Start node) lucks plain = start_grows w lucks node plain
 step_grows w other lucks plain = grows_last nobody w (step w other lucks).world (plain_lasts nobody w other lucks tt)

@@ -16,3 +16,4 @@ pub mod Started
 pub mod Stepped
 pub mod Maps
 pub mod Sounds
+pub mod Linked

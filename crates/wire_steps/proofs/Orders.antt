@@ -39,6 +39,7 @@ StartsNoClient other = Unit {0}
 -- an event that starts no node, and declares none
 abbrev pub IsPlain : Event → Type 0
 IsPlain (events.Store number) = ⊥
+IsPlain (events.Gate number) = ⊥
 IsPlain (events.Table table schema) = ⊥
 IsPlain (events.Client c gate tables) = ⊥
 IsPlain (events.Start node) = ⊥
@@ -284,6 +285,7 @@ module _ (R : World → World → Type 0) (here : (w : World) → R w w) (later 
 
   pub stepped : (w : World) (event : Event) (lucks : Lucks) → IsPlain event → Steps w (step w event lucks)
   stepped w (events.Store number) lucks plain = absurd plain
+  stepped w (events.Gate number) lucks plain = absurd plain
   stepped w (events.Table table schema) lucks plain = absurd plain
   stepped w (events.Client c gate tables) lucks plain = absurd plain
   stepped w (events.Write c table row x) lucks plain = called w c (client.Write table row x) lucks.shape lucks.calls tt

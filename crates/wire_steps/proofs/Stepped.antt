@@ -111,3 +111,12 @@ pub is_own : (event : Event) → kind_of event ≡ kind.Other → IsOwn event
 is_own (events.Deliver packet) e = absurd cc
 is_own (events.Pull c table) e = absurd cc
 is_own other e = tt
+
+-- an event that isn't the nodes' own takes no disk from the depot
+pub ends_apart : {D : Type 0} (state : D → DiskState) (images : D → ℕ → List ℕ → Type 0) (v : Wire) (f : Lucks → WireStep) (old new : World D)
+    (result : Result (List TextLine) WorldFault) → Ends state images v f result old new → IfErr result (λ e. e ≢ DepotFailed)
+ends_apart state images v f old new (Ok lines) k = tt
+ends_apart state images v f old new (Err e) k = k.only
+
+pub own_apart : (result : Result (List TextLine) WorldFault) (Own : Type 0) → Own → (Own → ⊥) → IfErr result (λ e. e ≢ DepotFailed)
+own_apart result Own own not = absurd (not own)

@@ -1,5 +1,6 @@
 pub mod Reached
 pub mod Holds
+pub mod Links
 pub mod Steps
 pub mod Kinds
 pub mod Sending

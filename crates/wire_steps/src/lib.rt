@@ -6,6 +6,7 @@ mod answering;
 mod close;
 mod deliver;
 mod kinds;
+mod links;
 mod memory;
 mod parts;
 mod pull;

@@ -8,6 +8,7 @@ ghost use Rattle.wire_laws.specs.Runs.{AreBuilt};
 ghost use Rattle.node_steps.specs.declared.fault.WorldFault.TheVariants.{Depot as DepotFailed, Memory};
 ghost use Rattle.node_steps.specs.declared.fault.WorldFault.TheVariants.{Limit as LimitPassed};
 ghost use Rattle.fair_laws.specs.Reached.{IsBuilt};
+ghost use Rattle.node_steps.specs.Fits.{IsOwn};
 ghost use Rattle.node_steps.specs.Holds.{AreOut};
 ghost use Rattle.wire_steps.specs.Reached.{IsReached};
 ghost use Rattle.wire_steps.specs.Holds.{Holds, IsWorld};
@@ -59,7 +60,7 @@ impl<D: Disk + Drop> World<D> {
     /// event then. `Limit` 11 where a client has made its last write or has begun its last plan, or a table has given
     /// its last version; `Depot` where the depot handed out no disk: either leaves the world as it was, but that it
     /// isn't said what limit 11 leaves where all conflicts of a table are resolved, or a part is delivered. What want
-    /// of memory leaves isn't said. Each ends the run.
+    /// of memory leaves isn't said. Each ends the run. A part that is delivered, or pulled for, takes no disk.
     pub fn step<P: Depot<Disk = D>>(
         &mut self,
         depot: &mut P,
@@ -89,6 +90,7 @@ impl<D: Disk + Drop> World<D> {
             → IsWhole event.now ⊎ (e ≡ DepotFailed)
             → IsUndone D.state v (P.state depot.new).is_out self.old self.new) }
         ensures depot { IsCounted DepotFailed (P.state depot.old).faults (P.state depot.new).faults result }
+        ensures apart { (IsOwn event.now → ⊥) → IfErr result (λ e. e ≢ DepotFailed) }
     {
         match kind_of(event) {
             Kind::Deliver(packet) => self.deliver(packet),

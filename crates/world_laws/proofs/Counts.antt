@@ -1016,6 +1016,7 @@ module _ (n m : ℕ) (w : World) (few : AreFew n m w) where
 
   step_few : (event : Event) (lucks : Lucks) → AreFew (n + 1) (m + begun_by w event) (step w event lucks).world
   step_few (events.Store number) lucks = after
+  step_few (events.Gate number) lucks = after
   step_few (events.Table table schema) lucks = declared_few table schema (first_luck lucks.calls) (hosted_at w table)
   step_few (events.Client c gate tables) lucks = joined_few c tables (first_luck lucks.calls) (client_at w c)
   step_few (events.Write c table row x) lucks = write_event c table row x lucks.shape lucks.calls

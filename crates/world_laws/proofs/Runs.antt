@@ -961,6 +961,7 @@ module _ (client_law : ClientLaws) (client_grows : ClientGrows) (lapsed_grows : 
 
     pub step_sound : IsUp w → (event : Event) (lucks : Lucks) → IsFirst event → StepSound s w event (step w event lucks)
     step_sound up (events.Store number) lucks first = let m = store_sound g w s number (length w.packets) k in record { turn = refl; lines = m.lines; kept = m.kept; there = m.there }
+    step_sound up (events.Gate number) lucks first = record { turn = refl; lines = tt; kept = k; there = λ q. λ old. old }
     step_sound up (events.Table table schema) lucks first = declare_sound table schema (first_luck lucks.calls) first (hosted_at w table) refl
     step_sound up (events.Client c gate tables) lucks first = join_sound c gate tables (first_luck lucks.calls) (client_at w c) refl
     step_sound up (events.Write c table row x) lucks first = write_sound c table row x lucks.shape lucks.calls

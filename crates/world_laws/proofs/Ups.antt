@@ -575,6 +575,7 @@ started_up w shape lucks up (nodes.Gate gate) = up
 
 pub step_up : (w : World) (event : Event) (lucks : Lucks) → IsUp w → IsUp (step w event lucks).world
 step_up w (events.Store number) lucks up = with_store_up number w up
+step_up w (events.Gate number) lucks up = up
 step_up w (events.Table table schema) lucks up = declared_up w table schema (first_luck lucks.calls) up (hosted_at w table) refl
 step_up w (events.Client c gate tables) lucks up = joined_up w c tables (first_luck lucks.calls) up (client_at w c)
 step_up w (events.Write c table row x) lucks up = event_up w c (client.Write table row x) lucks.shape lucks.calls up

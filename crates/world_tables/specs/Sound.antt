@@ -224,6 +224,7 @@ IsAnswer g s event answer counted = Unit {0}
 
 abbrev pub is_declaration : Event → Bool
 is_declaration (events.Store store) = true
+is_declaration (events.Gate gate) = true
 is_declaration (events.Table table schema) = true
 is_declaration (events.Client client gate tables) = true
 is_declaration other = false

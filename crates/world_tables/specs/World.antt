@@ -833,6 +833,7 @@ no_lucks = record { calls = []; shape = no_shape; shapes = []; tears = []; asks 
 -- what an event makes of the world, where its device calls go so
 abbrev pub step : World → Event → Lucks → WorldStep
 step w (events.Store number) lucks = silent (with_store number w)
+step w (events.Gate number) lucks = silent w
 step w (events.Table table schema) lucks =
     silent (declared w table schema (first_luck lucks.calls) (hosted_at w table))
 step w (events.Client c gate tables) lucks =

@@ -1,4 +1,4 @@
-use Rattle.std.proofs.Common.{◌≡◌, ℕ, ◌+◌, false, refl, sym, ◌∙◌, subst}
+use Rattle.std.proofs.Common.{◌≡◌, ℕ, ◌+◌, false, Ok, refl, sym, ◌∙◌, subst}
 use Rattle.std.specs.Prelude.{IfOk, IfErr}
 use Rattle.table_model.specs.declared.event.Event.{Event}
 use Rattle.table_model.specs.declared.event.Event.TheVariants as events
@@ -19,7 +19,7 @@ use Rattle.node_steps.specs.Steps.{HavePlansBelow, IsStep, Spends, may_begin}
 use Rattle.node_steps.proofs.Counted.{stepped, stepped_first, stepped_still, stepped_counted, never_left, left_still}
 use Rattle.node_steps.proofs.Rows.{any_ok, stay_left, stay_still}
 use Rattle.node_steps.proofs.Stepping.{memory_limit, either_limit, other_counted, memory_other, nodes_same, joins_as, plans_later, plans_kept, one_begun, least_begun, left_if, never_single}
-use Rattle.node_steps.proofs.Done.{comes_as}
+use Rattle.node_steps.proofs.Done.{comes_as, gate_silent}
 use Rattle.node_steps.proofs.AsCalls.{as_call, spent_limit}
 use Rattle.node_steps.proofs.world.World.step.Goals as goal
 
@@ -445,3 +445,18 @@ pub returns-in-Start-clause-plans : goal.returns-in-Start-clause-plans
 returns-in-Start-clause-plans g c w n r h k =
     one_begun g.D.Disk.state w c.args.event.now n c.start.new.self (subst (λ (e : Event). may_begin w e ≡ 1) (sym c.in-Start.is) refl)
     (plans_later g.D.Disk.state n c.start.new.self (c.start.ensures.plans n k))
+
+pub returns-in-Gate-clause-done : goal.returns-in-Gate-clause-done
+returns-in-Gate-clause-done g c w r h out =
+    stepped_still g.D.Disk.state g.D.Disk.images w c.args.event.now (g.P.Depot.state c.args.depot.now).is_out c.args.self.now c.args.self.now (Ok c.silent.result) out
+    (subst (λ (e : Event). (lucks : Lucks) → is_device_fault w e lucks ≡ false) (sym c.in-Gate.is) (λ lucks. refl)) refl refl
+    (gate_silent g.D.Disk.state w c.args.self.now h c.args.event.now _ c.in-Gate.is c.silent.result c.silent.ensures)
+    (stay_still g.D.Disk.state g.D.Disk.images w r c.args.event.now (Ok c.silent.result) c.args.self.now c.args.self.now g.met.D.Disk.only_now h refl)
+
+pub returns-in-Gate-clause-depot : goal.returns-in-Gate-clause-depot
+returns-in-Gate-clause-depot g c = refl
+
+pub returns-in-Gate-clause-plans : goal.returns-in-Gate-clause-plans
+returns-in-Gate-clause-plans g c w n r h k =
+    one_begun g.D.Disk.state w c.args.event.now n c.args.self.now (subst (λ (e : Event). may_begin w e ≡ 1) (sym c.in-Gate.is) refl)
+    (plans_later g.D.Disk.state n c.args.self.now k)

@@ -11,17 +11,17 @@ pub fall-requires : goal.fall-requires
 fall-requires g c =
     let old = c.args.self.now in
     let n = c.requires.held in
-    (_, crash_parts g.D.Disk.state n.0 old n.1 c.args.store c.busy-busy.result (c.busy-busy.ensures n.0 n.1) c.crash_busy.new.tables c.args.calls (c.crash_busy.ensures.crashed n.0 n.1.tables))
+    (_, crash_parts g.D.Disk.state n.0 old n.1 c.args.store c.busy_table-busy.result (c.busy_table-busy.ensures n.0 n.1) c.crash_busy.new.tables c.args.calls (c.crash_busy.ensures.crashed n.0 n.1.tables))
 
 pub returns-clause-crashed : goal.returns-clause-crashed
 returns-clause-crashed g c w h =
     let old = c.args.self.now in
     let a = c.crash_busy.ensures.crashed w h.tables in (
       a.0,
-      crash_falls g.D.Disk.state w old h c.args.store c.busy-busy.result (c.busy-busy.ensures w h) c.fall.new.self (up_declared g.D.Disk.state w old h c.args.store c.requires.up) c.crash_busy.new.tables c.args.calls a
+      crash_falls g.D.Disk.state w old h c.args.store c.busy_table-busy.result (c.busy_table-busy.ensures w h) c.fall.new.self (up_declared g.D.Disk.state w old h c.args.store c.requires.up) c.crash_busy.new.tables c.args.calls a
           c.fall.ensures.fallen,
-      subst (λ (o : Option ℕ). HasLuck g.D.Disk.state o old.tables c.fall.new.self.tables a.0) (c.busy-busy.ensures w h)
-          (luck_then g.D.Disk.state c.busy-busy.result old.tables c.crash_busy.new.tables c.fall.new.self.tables a.0 a.2 c.fall.ensures.counted),
+      subst (λ (o : Option ℕ). HasLuck g.D.Disk.state o old.tables c.fall.new.self.tables a.0) (c.busy_table-busy.ensures w h)
+          (luck_then g.D.Disk.state c.busy_table-busy.result old.tables c.crash_busy.new.tables c.fall.new.self.tables a.0 a.2 c.fall.ensures.counted),
     )
 
 pub returns-clause-later : goal.returns-clause-later
@@ -35,7 +35,7 @@ returns-clause-left g c w h =
     let old = c.args.self.now in
     let a = c.crash_busy.ensures.crashed w h.tables in
     let luck = crash_luck c.args.calls (other_lucks a.0) (first_luck a.0) in
-    let v = (table_crashes luck c.busy-busy.result w).world in
+    let v = (table_crashes luck c.busy_table-busy.result w).world in
     work_falls g.D.Disk.state g.D.Disk.images w v old.tables c.crash_busy.new.tables c.fall.new.self.tables h.tables a.1.held
-    (c.fall.ensures.left v (crash_parts g.D.Disk.state w old h c.args.store c.busy-busy.result (c.busy-busy.ensures w h) c.crash_busy.new.tables c.args.calls a))
-    (crash_from luck c.busy-busy.result w) (c.crash_busy.ensures.left w h.tables)
+    (c.fall.ensures.left v (crash_parts g.D.Disk.state w old h c.args.store c.busy_table-busy.result (c.busy_table-busy.ensures w h) c.crash_busy.new.tables c.args.calls a))
+    (crash_from luck c.busy_table-busy.result w) (c.crash_busy.ensures.left w h.tables)

@@ -1,7 +1,8 @@
 use Rattle.std.proofs.Common.{suc, ◌+◌, arith, sym, refl}
 use Rattle.table_model.specs.declared.event.Event.TheVariants as events
 use Rattle.wire_tables.specs.Wire.{wire_step}
-use Rattle.wire_steps.proofs.Stepped.{delivers, pulls, is_own, event_stepped, event_over, event_limited, event_plans, plans_as, number_more, event_left, event_counted, own_left}
+use Rattle.node_steps.specs.Fits.{IsOwn}
+use Rattle.wire_steps.proofs.Stepped.{delivers, pulls, is_own, event_stepped, event_over, event_limited, event_plans, plans_as, number_more, event_left, event_counted, own_left, ends_apart, own_apart}
 use Rattle.wire_steps.proofs.Sounds.{reached_by, goes_on_sound}
 use Rattle.wire_steps.proofs.world.World.step.Goals as goal
 
@@ -94,3 +95,18 @@ pub returns-in-Other-clause-sound : goal.returns-in-Other-clause-sound
 returns-in-Other-clause-sound g c run built h out =
     goes_on_sound g.D.Disk.state g.D.Disk.images run c.args.event.now built c.requires.built _ c.args.self.now c.carry_out.new.self c.carry_out.result
     (c.carry_out.ensures.done _ (reached_by run built) h out)
+
+pub returns-in-Deliver-clause-apart : goal.returns-in-Deliver-clause-apart
+returns-in-Deliver-clause-apart g c other =
+    let x = c.requires.held in
+    ends_apart g.D.Disk.state g.D.Disk.images x.v (wire_step x.v (events.Deliver c.in-Deliver.packet)) c.args.self.now c.deliver.new.self c.deliver.result
+    (c.deliver.ensures.ends x.v x.reached x.held)
+
+pub returns-in-Pull-clause-apart : goal.returns-in-Pull-clause-apart
+returns-in-Pull-clause-apart g c other =
+    let x = c.requires.held in
+    ends_apart g.D.Disk.state g.D.Disk.images x.v (wire_step x.v (events.Pull c.in-Pull.client c.in-Pull.table)) c.args.self.now c.pull.new.self c.pull.result
+    (c.pull.ensures.ends x.v x.reached x.held)
+
+pub returns-in-Other-clause-apart : goal.returns-in-Other-clause-apart
+returns-in-Other-clause-apart g c other = own_apart c.carry_out.result (IsOwn c.args.event.now) (is_own c.args.event.now (sym c.in-Other.ensures)) other

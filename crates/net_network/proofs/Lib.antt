@@ -1,0 +1,3 @@
+pub mod Stamped
+pub mod Framing
+pub mod Sending

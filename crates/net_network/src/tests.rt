@@ -1,0 +1,81 @@
+use super::*;
+use part_network::NetworkFault;
+use std::alloc::{AllocError, Global};
+use std::test::Fail;
+use table_model::{Message, Node, PullRequest, RegisterDevice};
+
+const CLIENT: Node = Node::Client(3);
+
+const GATE: Node = Node::Gate(2);
+
+const STORE: Node = Node::Store(1);
+
+/// A part that goes straight, one that goes by way of a gateway, and a registration: messages 0, 1 and 2, and 3.
+fn send_all(network: &mut Network) -> Result<(), NetworkFault> {
+    network.send_part(CLIENT, STORE, 0, 0, 29)?;
+    network.send_part(CLIENT, GATE, 1, 77, 29)?;
+    network.send_part(GATE, STORE, 1, 77, 29)?;
+    let message = Message::RegisterDevice(RegisterDevice { client: 3 });
+    know_frame(&message);
+    network.send(CLIENT, GATE, &message)
+}
+
+fn way(from: Node, to: Node, part: Option<(u64, u64)>) -> Option<Way> {
+    Some(Way { from, to, part })
+}
+
+#[test]
+fn each_message_has_its_way(rt: HostRuntime) -> Result<(), Fail> {
+    let mut network = Network::new(rt.alloc());
+    send_all(&mut network)?;
+    assert_eq!(rt; network.way(0), way(CLIENT, STORE, Some((0, 0))));
+    assert_eq!(rt; network.way(1), way(CLIENT, GATE, Some((1, 77))));
+    assert_eq!(rt; network.way(2), way(GATE, STORE, Some((1, 77))));
+    assert_eq!(rt; network.way(3), way(CLIENT, GATE, None));
+    assert_eq!(rt; network.way(4), None);
+    Ok(())
+}
+
+#[test]
+fn messages_are_counted(rt: HostRuntime) -> Result<(), Fail> {
+    let mut network = Network::new(rt.alloc());
+    send_all(&mut network)?;
+    assert_eq!(rt; network.sent(), 4);
+    // three parts of 29 bytes, and 5 bytes of length and kind and 4 of the client
+    assert_eq!(rt; network.bytes(), 96);
+    Ok(())
+}
+
+/// Who registers by a message.
+fn registered(alloc: Global, network: &Network, number: u64) -> Result<Option<u32>, AllocError> {
+    match network.read(alloc, number)? {
+        Some(Message::RegisterDevice(m)) => Ok(Some(m.client)),
+        _ => Ok(None),
+    }
+}
+
+#[test]
+fn a_message_that_is_no_part_is_read(rt: HostRuntime) -> Result<(), Fail> {
+    let mut network = Network::new(rt.alloc());
+    send_all(&mut network)?;
+    assert_eq!(rt; registered(rt.alloc(), &network, 3)?, Some(3));
+    assert_eq!(rt; registered(rt.alloc(), &network, 2)?, None);
+    assert_eq!(rt; registered(rt.alloc(), &network, 4)?, None);
+    Ok(())
+}
+
+#[test]
+fn a_part_has_a_token(rt: HostRuntime) {
+    let pull = PullRequest {
+        client: 3,
+        token: 0,
+        table: 2,
+        position: 7,
+    };
+    let stamped = stamp(77, Message::PullRequest(pull));
+    assert_eq!(rt; token_in(&stamped), 77);
+    assert!(rt; is_part(&stamped));
+    let register = Message::RegisterDevice(RegisterDevice { client: 3 });
+    assert_eq!(rt; token_in(&register), 0);
+    assert!(rt; !is_part(&register));
+}

@@ -9,9 +9,6 @@ use thiserror::Error;
 /// The greatest length of a frame: of its kind and its body.
 pub const FRAME_MAX: u32 = 1_048_576;
 
-/// A body has fewer bytes than this.
-pub const BODY_LIMIT: usize = 1_048_576;
-
 /// A frame: what kind of message its body spells, and the body.
 #[derive(Debug, Drop)]
 pub struct Frame {

@@ -8,7 +8,7 @@ mod opening;
 mod part;
 mod whole;
 
-pub use frame::{BODY_LIMIT, FRAME_MAX, Frame, FrameFault, frame_bytes};
+pub use frame::{FRAME_MAX, Frame, FrameFault, frame_bytes};
 pub use framer::Framer;
 pub use laws::{
     a_bad_length_stays, frames_do_not_depend_on_pieces, one_reading, the_empty_stream_is_open,

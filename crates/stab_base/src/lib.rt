@@ -19,7 +19,7 @@ pub use bytes::Bytes;
 pub use chunk_name::ChunkName;
 pub use codec::{
     TakeFault, counted_bytes_are_read_again, number_is_read_again, put_bytes, put_u8, put_u32,
-    put_u64, take_bytes, take_u8, take_u32, take_u64,
+    put_u64, take_bytes, take_u8, take_u32, take_u64, what_is_read_was_spelled_so,
 };
 pub use limits::NUMBER_MAX;
 pub use names::Names;

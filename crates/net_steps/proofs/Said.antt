@@ -1,0 +1,60 @@
+-- A packet of the wire that is sent on its way, and its line.
+use Rattle.std.proofs.Common.{◌≡◌, ℕ, List, [], ◌∷◌, ◌++◌, length, Option, Some, sym, ◌∙◌, ap, subst}
+use Rattle.std.specs.Prelude.{map, slice_get, option_map, option_to_list, Result, OnOk}
+use Rattle.std.proofs.lemmas.List.{map-append}
+use Rattle.std.proofs.lemmas.Result.{on_ok_weaker}
+use Rattle.stab_base.specs.declared.node.Node.{Node}
+use Rattle.table_model.specs.declared.message_name.MessageName.{MessageName}
+use Rattle.table_model.specs.MessageNames.{name_of}
+use Rattle.table_model.specs.declared.line.Fact.TheVariants as told
+use Rattle.table_model.specs.declared.line.TextLine.{TextLine}
+use Rattle.table_model.specs.declared.line.TextLine.TheVariants as lines
+use Rattle.step_tables.specs.Facts.{Line, FactLine}
+use Rattle.step_tables.specs.Facts as facts
+use Rattle.step_tables.specs.Lines.{line_of}
+use Rattle.message_parts.specs.Parts.{message_at}
+use Rattle.wire_tables.specs.Wire.{PartPacket, part_name}
+use Rattle.part_network.specs.Packets.{frame_length}
+use Rattle.gated_tables.specs.Devices.{stamped}
+use Rattle.gated_tables.specs.Net.{Net, Sent, routed, sent_lines}
+use Rattle.net_network.specs.Packets.{HasSent}
+use Rattle.net_network.specs.declared.network.Network.{Network}
+use Rattle.net_steps.specs.Carrying.{AreSent}
+use Rattle.net_steps.specs.Walking.{IsThere, AreWalked}
+use Rattle.net_steps.proofs.Routed.{routed_name}
+
+some_same : {X : Type 0} (a b : X) → Some a ≡ Some b → a ≡ b
+some_same a b h = cc
+
+pub len_there : (ps : List PartPacket) (number : ℕ) (p : PartPacket) → slice_get ps number ≡ Some p → (len : ℕ) (found : Option ℕ) → found ≡ Some len
+    → found ≡ option_map (λ (q : PartPacket). frame_length (message_at q.part)) (slice_get ps number) → len ≡ frame_length (message_at p.part)
+len_there ps number p at len found is told =
+    some_same len (frame_length (message_at p.part)) (sym is ∙ (told ∙ ap (option_map (λ (q : PartPacket). frame_length (message_at q.part))) at))
+
+module _ (n : Net) (ps : List PartPacket) (gone : List Sent) where
+  pub sent_and_told : (p : PartPacket) (from to : Node) (token : ℕ) → routed n p ≡ record { from = from; to = to; message = stamped token (message_at p.part) }
+      → (name : MessageName) → part_name p.part ≡ name → (number : ℕ) → number ≡ length gone → (before after : List TextLine)
+      → after ≡ before ++ lines.Fact (told.Sent number from to name) ∷ [] → (network : Network)
+      → HasSent network ps (gone ++ record { from = from; to = to; message = stamped token (message_at p.part) } ∷ []) → AreSent ps gone (routed n p ∷ []) network before after
+  sent_and_told p from to token route name name_is number number_is before after pushed network h = record {
+    sent = subst (λ (one : Sent). HasSent network ps (gone ++ one ∷ [])) (sym route) h;
+    lines = ap (map line_of) pushed
+        ∙ (map-append line_of before (lines.Fact (told.Sent number from to name) ∷ [])
+        ∙ (ap (λ (k : ℕ). map line_of before ++ FactLine (facts.Sent k from to name) ∷ []) number_is
+        ∙ (ap (λ (x : MessageName). map line_of before ++ FactLine (facts.Sent (length gone) from to x) ∷ []) (sym name_is ∙ sym (routed_name n p))
+        ∙ ap (λ (one : Sent). map line_of before ++ FactLine (facts.Sent (length gone) one.from one.to (name_of (routed n p).message)) ∷ []) (sym route))));
+  }
+
+  -- a line of the wire that tells a packet is this packet's
+  pub line_walked : {T E : Type 0} (x : Line) (packet : ℕ) (from to : Node) (name : MessageName) → x ≡ FactLine (facts.Sent packet from to name) → IsThere ps x
+      → (network : Network) (before after : List TextLine) (result : Result T E)
+      → ((p : PartPacket) → slice_get ps packet ≡ Some p → p.from ≡ from → p.to ≡ to → part_name p.part ≡ name → OnOk result (AreSent ps gone (routed n p ∷ []) network before after))
+      → OnOk result (AreWalked n ps gone (x ∷ []) network before after)
+  line_walked x packet from to name is there network before after result f =
+      let t : IsThere ps (FactLine (facts.Sent packet from to name)) = subst (IsThere ps) is there in
+      on_ok_weaker result
+      (λ a. subst (λ (y : Line). AreWalked n ps gone (y ∷ []) network before after) (sym is) (record {
+        sent = subst (λ (l : List Sent). HasSent network ps (gone ++ l)) (sym (ap (λ (o : Option PartPacket). map (routed n) (option_to_list o) ++ []) t.1)) a.sent;
+        lines = a.lines ∙ sym (ap (λ (o : Option PartPacket). map line_of before ++ (sent_lines (length gone) (map (routed n) (option_to_list o)) ++ [])) t.1);
+      }))
+      (f t.0 t.1 t.2 t.3 t.4)

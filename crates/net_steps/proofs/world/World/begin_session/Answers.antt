@@ -1,0 +1,24 @@
+use Rattle.std.proofs.Common.{Some, refl}
+use Rattle.std.proofs.lemmas.Result.{err_from_is_err_and}
+use Rattle.step_tables.specs.Facts as facts
+use Rattle.gated_tables.specs.Net.{still, with_device}
+use Rattle.net_steps.specs.Devices.{device_of}
+use Rattle.net_steps.proofs.Delivered.{memory_delivers}
+use Rattle.net_steps.proofs.Sessions.{is_there, is_client, begun_delivers}
+use Rattle.net_steps.proofs.world.World.begin_session.Goals as goal
+
+pub returns-in_err-set_device : goal.returns-in_err-set_device
+returns-in_err-set_device g c is_out n x =
+    let p = err_from_is_err_and c.from_residual.result c.from_residual.ensures.1 in
+    rw p.1 (memory_delivers g.D.Disk.state g.D.Disk.images n (λ lucks. still (with_device c.args.client (record (device_of c.args.device) { token = Some c.args.token }) n) facts.Done)
+    p.0 p.2 is_out c.args.self.now c.set_device.new.self c.in_err-set_device.ensures.plans)
+
+pub returns : goal.returns
+returns g c is_out n x =
+    let k = c.in_ok-set_device.ensures in
+    let there = is_there g.D.Disk.state g.D.Disk.images g.met.D.Disk.only_now is_out n c.args.client (device_of c.args.device) c.args.self.now x in
+    let client = is_client g.D.Disk.state g.D.Disk.images g.met.D.Disk.only_now is_out n c.args.client (device_of c.args.device) c.args.self.now x in
+    let e = record (device_of c.args.device) { token = Some c.args.token } in
+    begun_delivers g.D.Disk.state g.D.Disk.images g.met.D.Disk.only_now is_out n c.args.client (device_of c.args.device) c.args.self.now x e
+    c.set_device.new.self (k.held n x.here.held there client) k.store k.faults k.plans (λ lucks. still (with_device c.args.client e n) facts.Done) refl
+    c.only.result c.only.ensures.lines c.only.ensures.memory

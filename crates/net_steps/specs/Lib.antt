@@ -1,0 +1,12 @@
+pub mod Devices
+pub mod Holds
+pub mod Steps
+pub mod Sounds
+pub mod Kinds
+pub mod Carrying
+pub mod Calls
+pub mod Handing
+pub mod Alone
+pub mod Through
+pub mod Walking
+pub mod Delivering

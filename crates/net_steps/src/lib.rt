@@ -1,0 +1,22 @@
+//! The world with gateways: the wire of clients and Stores, the gateways, the clients' sessions, and every message that
+//! was sent. Each event is a step of the world that the definitions have.
+#![tactic(auto)]
+
+mod carry;
+mod close;
+mod declare;
+mod deeds;
+mod deliver;
+mod device;
+mod hand;
+mod joining;
+mod kinds;
+mod links;
+mod reading;
+mod restore;
+mod say;
+mod session;
+mod through;
+mod world;
+
+pub use world::World;

@@ -13,20 +13,20 @@ use Rattle.script_text.specs.declared.verb.Verb.{Verb}
 use Rattle.script_text.specs.declared.verb.Verb.TheVariants as verbs
 use Rattle.script_text.specs.Verbs.{edit_name, name_of}
 use Rattle.script_text.specs.Names.{Names, has_no_store, columns_of}
-use Rattle.script_text.specs.Places.{◌>>=◌, names_of, new_store_at, new_table_at, new_client_at, tables_at, new_name_at, scheme_at, chunk_at}
-use Rattle.script_text.specs.Reading.{made_store, made_table, made_client, store_in, table_in, client_in, content_in, some_columns_in, write_in, client_row_in, show_in}
+use Rattle.script_text.specs.Places.{◌>>=◌, names_of, new_store_at, new_gate_at, new_table_at, new_client_at, tables_at, new_name_at, scheme_at, chunk_at}
+use Rattle.script_text.specs.Reading.{made_store, made_table, made_client, store_in, table_in, client_in, content_in, some_columns_in, write_in, client_row_in, show_in, gate_in, made_gate}
 use Rattle.script_text.specs.Reading.{sum_in, client_table_in, sync_in, pull_in, begin_cr_in, conflicts_in, end_cr_in, choice_in, resolve_in, rule_in, resolve_all_in}
 use Rattle.script_text.specs.Reading.{deliver_in, store_show_in, history_in, chunks_in, node_in, hold_in, free_in, work_in, work_all_in, start_in, crash_in, link_in, change_in, edit_in}
 use Rattle.stab_base.specs.Row.{row_of}
 use Rattle.stab_base.specs.declared.node.Node.{Node}
-use Rattle.script_text.specs.Grammar.{SpelledBy, AreColumns, scheme_word, client_word, table_word, tables_word, node_word, IsClient, IsTable, IsNode, limit_of, verb_for}
+use Rattle.script_text.specs.Grammar.{SpelledBy, AreColumns, scheme_word, client_word, table_word, tables_word, node_word, gateway_word, IsClient, IsTable, IsNode, limit_of, verb_for}
 use Rattle.script_text.proofs.Steps.{ok_err, bind-ok, word_in-ok, end-ok}
 use Rattle.script_text.proofs.Numbers.{number_at-ok, number_to-ok}
 use Rattle.script_text.proofs.Distinct.{new-distinct}
 use Rattle.script_text.proofs.ColumnLemmas.{some_columns-ok, same_count}
 use Rattle.script_text.proofs.PlaceLemmas.{client_at-ok, party_at-ok, table_at-ok, new_store_at-ok, new_store_at-within}
 use Rattle.script_text.proofs.PlaceLemmas.{new_store_at-limit, new_table_at-ok, new_table_at-within, new_table_at-limit}
-use Rattle.script_text.proofs.PlaceLemmas.{new_client_at-ok, new_client_at-within, new_client_at-limit, gate_at-ok, new_name_at-ok, scheme_at-ok, chunk_at-ok, row_at-ok}
+use Rattle.script_text.proofs.PlaceLemmas.{new_client_at-ok, new_client_at-within, new_client_at-limit, new_gate_at-ok, new_gate_at-within, new_gate_at-limit, IsGateTold, gate_at-ok, new_name_at-ok, scheme_at-ok, chunk_at-ok, row_at-ok}
 use Rattle.script_words.specs.Columns.{column_word}
 use Rattle.script_text.proofs.ContentLemmas.{content-ok}
 use Rattle.script_text.proofs.ChoiceLemmas.{choice-ok}
@@ -53,15 +53,22 @@ module _ (names : Names) where
       let p = new_store_at-ok names w n h in
       ((ap (λ (v : List ℕ). codes "store" ∷ v ∷ []) p.0, p.1, early, p.2), rw (new_store_at-within names w n h) refl)
 
-  client-told : (w u v : List ℕ) (o : Option ℕ) (t : Option (List ℕ)) → names.started ≡ false → new_client_at names w ≡ Ok o → u ≡ codes "-" → tables_at names v ≡ Ok t
-      → Told names verbs.Client (w ∷ u ∷ v ∷ []) (made_client o t)
-  client-told w u v None t early h q k = rw (new_client_at-limit names w h) refl
-  client-told w u v (Some n) None early h q k = rw (new_client_at-within names w n h, tables_at-limit names v k) refl
-  client-told w u v (Some n) (Some tables) early h q k =
+  gate-told : (w : List ℕ) (o : Option ℕ) → names.started ≡ false → new_gate_at names w ≡ Ok o → Told names verbs.Gate (w ∷ []) (made_gate o)
+  gate-told w None early h = new_gate_at-limit names w h
+  gate-told w (Some n) early h =
+      let p = new_gate_at-ok names w n h in
+      ((ap (λ (v : List ℕ). codes "gate" ∷ v ∷ []) p.0, p.1, early, p.2), rw (new_gate_at-within names w n h) refl)
+
+  client-told : (w u v : List ℕ) (o : Option ℕ) (g : Option (Option ℕ)) (t : Option (List ℕ)) → names.started ≡ false → new_client_at names w ≡ Ok o → IsGateTold names u g → tables_at names v ≡ Ok t
+      → Told names verbs.Client (w ∷ u ∷ v ∷ []) (made_client o g t)
+  client-told w u v None g t early h q k = rw (new_client_at-limit names w h) refl
+  client-told w u v (Some n) None t early h q k = rw (new_client_at-within names w n h, q) refl
+  client-told w u v (Some n) (Some gate) None early h q k = rw (new_client_at-within names w n h, q.2, tables_at-limit names v k) refl
+  client-told w u v (Some n) (Some gate) (Some tables) early h q k =
       let p = new_client_at-ok names w n h in
       let s = tables_at-ok names v tables k in
-      let words : codes "client" ∷ w ∷ u ∷ v ∷ [] ≡ codes "client" ∷ client_word n ∷ codes "-" ∷ tables_word tables ∷ [] = rw (p.0, q, s.0) refl in
-      ((words, p.1, refl, s.1, s.2, early, p.2), (rw (new_client_at-within names w n h, tables_at-within names v tables k) refl))
+      let words : codes "client" ∷ w ∷ u ∷ v ∷ [] ≡ codes "client" ∷ client_word n ∷ gateway_word gate ∷ tables_word tables ∷ [] = rw (p.0, q.0, s.0) refl in
+      ((words, p.1, q.1, s.1, s.2, early, p.2), (rw (new_client_at-within names w n h, q.2, tables_at-within names v tables k) refl))
 
   table-picked : (ws : List (List ℕ)) (e : Event) (many : Bool) → (many ≡ true → limit_of verbs.Table ws ≡ Some 8)
       → (many ≡ false → SpelledBy names (codes "table" ∷ ws) e × (limit_of verbs.Table ws ≡ None)) → Told names verbs.Table ws (cond many (Err 8) (Ok e))
@@ -107,16 +114,24 @@ module _ (names : Names) (ws : List (List ℕ)) (e : Result Event ℕ) where
       let is : ws ≡ a.0 ∷ [] = cc in
       told-at names verbs.Store ws (a.0 ∷ []) (made_store a.2) e is r.1 (store-told names a.0 a.2 early a.4)
 
+  pub gate-ok : names.started ≡ false → gate_in names ws ≡ Ok e → Told names verbs.Gate ws e
+  unfolding gate_in
+  gate-ok early h =
+      let a = word_in-ok _ _ _ ws e h in
+      let r = end-ok 2 (made_gate a.2) a.1 e a.5 in
+      let is : ws ≡ a.0 ∷ [] = cc in
+      told-at names verbs.Gate ws (a.0 ∷ []) (made_gate a.2) e is r.1 (gate-told names a.0 a.2 early a.4)
+
   pub client-ok : names.started ≡ false → client_in names ws ≡ Ok e → Told names verbs.Client ws e
   unfolding client_in
   client-ok early h =
       let a = word_in-ok _ _ _ ws e h in
       let b = word_in-ok _ _ _ a.1 e a.5 in
       let c = word_in-ok _ _ _ b.1 e b.5 in
-      let r = end-ok 4 (made_client a.2 c.2) c.1 e c.5 in
+      let r = end-ok 4 (made_client a.2 b.2 c.2) c.1 e c.5 in
       let is : ws ≡ a.0 ∷ b.0 ∷ c.0 ∷ [] = cc in
-      told-at names verbs.Client ws (a.0 ∷ b.0 ∷ c.0 ∷ []) (made_client a.2 c.2) e is r.1
-      (client-told names a.0 b.0 c.0 a.2 c.2 early a.4 (gate_at-ok b.0 b.2 b.4) c.4)
+      told-at names verbs.Client ws (a.0 ∷ b.0 ∷ c.0 ∷ []) (made_client a.2 b.2 c.2) e is r.1
+      (client-told names a.0 b.0 c.0 a.2 b.2 c.2 early a.4 (gate_at-ok names b.0 b.2 b.4) c.4)
 
   pub table-ok : names.started ≡ false → has_no_store names ≡ false → table_in names ws ≡ Ok e → Told names verbs.Table ws e
   unfolding table_in

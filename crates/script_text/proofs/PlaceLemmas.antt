@@ -11,13 +11,14 @@ use Rattle.stab_base.specs.declared.node.Node.TheVariants as nodes
 use Rattle.row_value.specs.declared.schema.Scheme.{Scheme}
 use Rattle.row_value.specs.declared.schema.Scheme.TheVariants as schemes
 use Rattle.script_words.specs.declared.code.Code.{Code}
-use Rattle.script_words.specs.declared.code.Code.TheVariants.{NoNumber, NoName, NoRow, NotDeclared, Twice, Unbuilt}
-use Rattle.script_text.specs.Names.{Names, has_store, has_table, has_name, has_client}
+use Rattle.script_words.specs.declared.code.Code.TheVariants.{NoNumber, NoName, NoRow, NotDeclared, Twice}
+use Rattle.script_text.specs.Names.{Names, has_store, has_gate, has_table, has_name, has_client}
 use Rattle.script_words.specs.Words.{is_name}
-use Rattle.script_text.specs.Places.{◌>>=◌, node_at, known, limited_at, passed, fresh, opened, opened_at, client_at, store_at}
+use Rattle.script_text.specs.Places.{◌>>=◌, node_at, known, limited_at, passed, fresh, opened, opened_at, client_at, store_at, named_gate_at}
+use Rattle.script_text.specs.Places.{gate_number, new_gate_at, own_gate_at, chosen}
 use Rattle.script_text.specs.Places.{begins_with, party_at, table_at, store_number, table_number}
 use Rattle.script_text.specs.Places.{client_number, new_store_at, new_table_at, new_client_at, gate_at, new_name_at, scheme_at, chunk_at, row_at, found_row}
-use Rattle.script_text.specs.Grammar.{IsChunk, IsUpTo, scheme_word, client_word, store_word, table_word, node_word, IsClient, IsTable, IsNode}
+use Rattle.script_text.specs.Grammar.{IsChunk, IsUpTo, scheme_word, client_word, store_word, table_word, node_word, gate_word, gateway_word, IsClient, IsTable, IsNode, IsGateway}
 use Rattle.script_text.proofs.Steps.{ok_err, bind-ok}
 use Rattle.script_text.proofs.Numbers.{if-ok, unless-ok, some_same, ok_same, none_some, node-some, limited-some}
 
@@ -108,17 +109,25 @@ module _ (names : Names) (word : List ℕ) where
       let p = bind-ok (client_at names word) (λ number. Ok (nodes.Client number)) node e in
       subst (λ (x : Node). (word ≡ node_word x) × IsNode names x) (ok_same _ _ p.2) (client_at-ok names word p.0 p.1)
 
-  gate-ok : (node : Node) → (node_at 71 word >>= λ number. Err NotDeclared) ≡ Ok node → ⊥
+  named_gate_at-ok : (n : ℕ) → named_gate_at names word ≡ Ok n → (word ≡ node_word (nodes.Gate n)) × IsNode names (nodes.Gate n)
+  unfolding named_gate_at
+  named_gate_at-ok n e =
+      let p = bind-ok (node_at 71 word) (known (has_gate names)) n e in
+      let q = known-ok (has_gate names) p.0 n p.2 in
+      let r = node-some 71 word n (p.1 ∙ ap Ok q.0) in
+      (r.0, (r.1, r.2, q.1))
+
+  gate-ok : (node : Node) → (named_gate_at names word >>= λ number. Ok (nodes.Gate number)) ≡ Ok node → (word ≡ node_word node) × IsNode names node
   gate-ok node e =
-      let p = bind-ok (node_at 71 word) (λ number. Err NotDeclared) node e in
-      ok_err node NotDeclared (sym p.2)
+      let p = bind-ok (named_gate_at names word) (λ number. Ok (nodes.Gate number)) node e in
+      subst (λ (x : Node). (word ≡ node_word x) × IsNode names x) (ok_same _ _ p.2) (named_gate_at-ok p.0 p.1)
 
   pub party_at-ok : (node : Node) → party_at names word ≡ Ok node → (word ≡ node_word node) × IsNode names node
   unfolding party_at
   party_at-ok node e = elim (cases_Bool (begins_with 83 word)) [
     | inl store ↦ store-ok node (rw store at e)
     | inr other ↦ elim (cases_Bool (begins_with 71 word)) [
-      | inl gate ↦ absurd (gate-ok node (rw (other, gate) at e))
+      | inl gate ↦ gate-ok node (rw (other, gate) at e)
       | inr neither ↦ client-ok node (rw (other, neither) at e)
     ]
   ]
@@ -134,6 +143,30 @@ module _ (names : Names) (word : List ℕ) where
   pub new_store_at-limit : new_store_at names word ≡ Ok None → passed 7 (store_number word) ≡ Some 7
   unfolding new_store_at
   new_store_at-limit e = above (fresh (has_store names)) 83 16 word 7 (fresh-none (has_store names)) e
+
+  pub new_gate_at-ok : (n : ℕ) → new_gate_at names word ≡ Ok (Some n) → (word ≡ gate_word n) × IsUpTo 16 n × (has_gate names n ≡ false)
+  unfolding new_gate_at
+  new_gate_at-ok n e = numbered (fresh (has_gate names)) _ (fresh-ok (has_gate names)) 71 16 word n e
+
+  pub new_gate_at-within : (n : ℕ) → new_gate_at names word ≡ Ok (Some n) → passed 6 (gate_number word) ≡ None
+  unfolding new_gate_at
+  new_gate_at-within n e = ap (passed 6) (within (fresh (has_gate names)) _ (fresh-ok (has_gate names)) 71 16 word n e).0
+
+  pub new_gate_at-limit : new_gate_at names word ≡ Ok None → passed 6 (gate_number word) ≡ Some 6
+  unfolding new_gate_at
+  new_gate_at-limit e = above (fresh (has_gate names)) 71 16 word 6 (fresh-none (has_gate names)) e
+
+  own_gate_at-ok : (n : ℕ) → own_gate_at names word ≡ Ok (Some n) → (word ≡ gate_word n) × IsUpTo 16 n × (has_gate names n ≡ true)
+  unfolding own_gate_at
+  own_gate_at-ok n e = numbered (opened (has_gate names)) _ (opened-ok (has_gate names)) 71 16 word n e
+
+  own_gate_at-within : (n : ℕ) → own_gate_at names word ≡ Ok (Some n) → passed 6 (gate_number word) ≡ None
+  unfolding own_gate_at
+  own_gate_at-within n e = ap (passed 6) (within (opened (has_gate names)) _ (opened-ok (has_gate names)) 71 16 word n e).0
+
+  own_gate_at-limit : own_gate_at names word ≡ Ok None → passed 6 (gate_number word) ≡ Some 6
+  unfolding own_gate_at
+  own_gate_at-limit e = above (opened (has_gate names)) 71 16 word 6 (opened-none (has_gate names)) e
 
   pub new_table_at-ok : (n : ℕ) → new_table_at names word ≡ Ok (Some n) → (word ≡ table_word n) × IsUpTo 64 n × (has_table names n ≡ false)
   unfolding new_table_at
@@ -179,11 +212,30 @@ one_word spelling x y word rest more e = elim (cases_Bool (bytes_eq word (spelli
   | inr other ↦ more (rw other at e)
 ]
 
-pub gate_at-ok : (word : List ℕ) (u : Unit {0}) → gate_at word ≡ Ok u → word ≡ codes "-"
+-- the gateway of a client, or that it has none; or a number above the limit
+abbrev pub IsGateTold : Names → List ℕ → Option (Option ℕ) → Type 0
+IsGateTold names word None = passed 6 (gate_number word) ≡ Some 6
+IsGateTold names word (Some gate) = (word ≡ gateway_word gate) × IsGateway names gate × (passed 6 (gate_number word) ≡ None)
+
+chosen-told : (names : Names) (word : List ℕ) (o : Option ℕ) → own_gate_at names word ≡ Ok o → IsGateTold names word (chosen o)
+chosen-told names word None e = own_gate_at-limit names word e
+chosen-told names word (Some n) e =
+    let p = own_gate_at-ok names word n e in
+    (p.0, (p.1, p.2), own_gate_at-within names word n e)
+
+no-gateway : passed 6 (gate_number (codes "-")) ≡ None
+unfolding limited_at node_at
+no-gateway = refl
+
+pub gate_at-ok : (names : Names) (word : List ℕ) (gate : Option (Option ℕ)) → gate_at names word ≡ Ok gate → IsGateTold names word gate
 unfolding gate_at
-gate_at-ok word u e = elim (cases_Bool (bytes_eq word (codes "-"))) [
-  | inl is ↦ (bytes_eq-Decides word (codes "-")).0 is
-  | inr other ↦ let p = bind-ok (node_at 71 word) (λ n. Err Unbuilt) u (rw other at e) in absurd (ok_err u Unbuilt (sym p.2))
+gate_at-ok names word gate e = elim (cases_Bool (bytes_eq word (codes "-"))) [
+  | inl is ↦
+      let same : word ≡ codes "-" = (bytes_eq-Decides word (codes "-")).0 is in
+      subst (IsGateTold names word) (ok_same _ _ (rw is at e)) (same, tt, ap (λ (w : List ℕ). passed 6 (gate_number w)) same ∙ no-gateway)
+  | inr other ↦
+      let p = bind-ok (own_gate_at names word) (λ o. Ok (chosen o)) gate (rw other at e) in
+      subst (IsGateTold names word) (ok_same _ _ p.2) (chosen-told names word p.0 p.1)
 ]
 
 pub new_name_at-ok : (names : Names) (word name : List ℕ) → new_name_at names word ≡ Ok name → (word ≡ name) × (is_name name ≡ true) × (has_name names name ≡ false)

@@ -16,14 +16,14 @@ use Rattle.script_text.specs.Grammar.{SpelledBy, VerbFault, WordsFault, limit_of
 use Rattle.script_text.proofs.Steps.{ok_err, bind-ok, bind-err}
 use Rattle.script_text.proofs.Numbers.{some_same, none_some}
 use Rattle.script_text.proofs.VerbWords.{verb-some, verb-none, verb-again}
-use Rattle.script_text.proofs.Goods.{Told, store-ok, table-ok, client-ok, write-ok, show-ok, sum-ok, sync-ok, pull-ok, deliver-ok, store_show-ok, history-ok, chunks-ok}
+use Rattle.script_text.proofs.Goods.{Told, store-ok, gate-ok, table-ok, client-ok, write-ok, show-ok, sum-ok, sync-ok, pull-ok, deliver-ok, store_show-ok, history-ok, chunks-ok}
 use Rattle.script_text.proofs.Goods.{begin_cr-ok, conflicts-ok, end_cr-ok, resolve-ok, resolve_all-ok}
 use Rattle.script_text.proofs.Goods.{link-ok, edit-ok, hold-ok, free-ok, work-ok, work_all-ok, crash-ok, start-ok}
 use Rattle.script_text.proofs.Stops.{begin_cr-err, conflicts-err, end_cr-err, resolve-err, resolve_all-err}
 use Rattle.script_text.proofs.Stops.{begin_cr-fault, conflicts-fault, end_cr-fault, resolve-fault, resolve_all-fault}
-use Rattle.script_text.proofs.Stops.{store-err, table-err, client-err, write-err, show-err, sum-err, sync-err, pull-err}
+use Rattle.script_text.proofs.Stops.{store-err, gate-err, table-err, client-err, write-err, show-err, sum-err, sync-err, pull-err}
 use Rattle.script_text.proofs.Stops.{link-err, edit-err, link-fault, edit-fault, deliver-err, store_show-err, history-err, chunks-err, hold-err, free-err, work-err, work_all-err, crash-err, start-err}
-use Rattle.script_text.proofs.Stops.{store-fault, table-fault, client-fault, chunks-fault, hold-fault, free-fault, work-fault, work_all-fault, crash-fault, start-fault}
+use Rattle.script_text.proofs.Stops.{store-fault, gate-fault, table-fault, client-fault, chunks-fault, hold-fault, free-fault, work-fault, work_all-fault, crash-fault, start-fault}
 use Rattle.script_text.proofs.Stops.{write-fault, show-fault, sum-fault, sync-fault, pull-fault, deliver-fault, store_show-fault, history-fault}
 
 unless : {X : Type 0} (b : Bool) (r : Result X BadLine) (f : BadLine) (x : X) → cond b (Err f) r ≡ Ok x → (b ≡ false) × (r ≡ Ok x)
@@ -86,6 +86,7 @@ module _ (names : Names) (first : List ℕ) (ws : List (List ℕ)) where
 
   event-built : (verb : Verb) (told : Result Event ℕ) → built_in names verb ws ≡ Ok told → Told names verb ws told
   event-built verbs.Store told h = let p = in_time-ok _ told h in store-ok names ws told p.0 p.1
+  event-built verbs.Gate told h = let p = in_time-ok _ told h in gate-ok names ws told p.0 p.1
   event-built verbs.Table told h =
       let q = unless (has_no_store names) _ (bad NotDeclared 0) told h in
       let p = in_time-ok _ told q.1 in table-ok names ws told p.0 q.0 p.1
@@ -123,6 +124,7 @@ module _ (names : Names) (first : List ℕ) (ws : List (List ℕ)) where
 
   fault-built : (verb : Verb) (f : BadLine) → built_in names verb ws ≡ Err f → VerbFault names verb ws f
   fault-built verbs.Store f h = early names.started f h (store-err names ws f)
+  fault-built verbs.Gate f h = early names.started f h (gate-err names ws f)
   fault-built verbs.Table f h = stored (has_no_store names) names.started f h (table-err names ws f)
   fault-built verbs.Client f h = early names.started f h (client-err names ws f)
   fault-built verbs.Write f h = write-err names ws f (unlimited-err _ f h)
@@ -158,6 +160,7 @@ module _ (names : Names) (first : List ℕ) (ws : List (List ℕ)) where
 
   built-fault : (verb : Verb) (f : BadLine) → VerbFault names verb ws f → built_in names verb ws ≡ Err f
   built-fault verbs.Store f h = early-fault names.started f h (store-fault names ws f)
+  built-fault verbs.Gate f h = early-fault names.started f h (gate-fault names ws f)
   built-fault verbs.Table f h = stored-fault (has_no_store names) names.started f h (table-fault names ws f)
   built-fault verbs.Client f h = early-fault names.started f h (client-fault names ws f)
   built-fault verbs.Write f h = rw (write-fault names ws f h) refl

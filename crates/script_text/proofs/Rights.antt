@@ -1,5 +1,5 @@
 -- Words that are right at their places.
-use Rattle.std.proofs.Common.{◌≡◌, ℕ, ◌<◌, ◌≤◌, ◌^◌, true, false, eqb, List, [], ◌∷◌, ◌++◌, map, codes, Some, Ok}
+use Rattle.std.proofs.Common.{◌≡◌, ℕ, ◌<◌, ◌≤◌, ◌^◌, true, false, eqb, List, [], ◌∷◌, ◌++◌, map, codes, Option, Some, None, Ok}
 use Rattle.std.proofs.Common.{refl, ap, ◌∙◌, inl, inr, arith, All}
 use Rattle.std.specs.Fmt.{decimal}
 use Rattle.std.specs.List.{AllByRecursion, IsDistinct}
@@ -15,12 +15,12 @@ use Rattle.stab_base.specs.declared.node.Node.{Node}
 use Rattle.stab_base.specs.declared.node.Node.TheVariants as nodes
 use Rattle.row_value.specs.declared.schema.Scheme.{Scheme}
 use Rattle.row_value.specs.declared.schema.Scheme.TheVariants as schemes
-use Rattle.script_text.specs.Names.{Names, has_store, has_table, has_name, has_client}
+use Rattle.script_text.specs.Names.{Names, has_store, has_gate, has_table, has_name, has_client}
 use Rattle.script_words.specs.Words.{is_name}
-use Rattle.script_text.specs.Places.{is_comma, parts_at, opened_at, tables_in, client_at, store_at}
+use Rattle.script_text.specs.Places.{is_comma, parts_at, opened_at, tables_in, client_at, store_at, named_gate_at, new_gate_at, own_gate_at}
 use Rattle.script_text.specs.Places.{party_at, table_at, new_store_at, new_table_at}
 use Rattle.script_text.specs.Places.{new_client_at, gate_at, tables_at, new_name_at, scheme_at, chunk_at, row_at, found_row}
-use Rattle.script_text.specs.Grammar.{IsChunk, IsUpTo, scheme_word, client_word, store_word, table_word, tables_word, node_word, IsClient, IsTable, IsNode}
+use Rattle.script_text.specs.Grammar.{IsChunk, IsUpTo, scheme_word, client_word, store_word, table_word, tables_word, node_word, IsClient, IsTable, IsNode, gate_word, gateway_word, IsGateway}
 use Rattle.script_text.proofs.Numbers.{node-right, limited-right}
 use Rattle.script_text.proofs.Distinct.{NewTo, distinct-new, distinct-words}
 use Rattle.script_text.proofs.PlaceLemmas.{text-64, text-1024, text-65536}
@@ -50,10 +50,14 @@ store_at-right : (names : Names) (n : ℕ) → IsNode names (nodes.Store n) → 
 unfolding store_at
 store_at-right names n h = rw (node-right 83 n h.0 h.1, h.2) refl
 
+named_gate_at-right : (names : Names) (n : ℕ) → IsNode names (nodes.Gate n) → named_gate_at names (node_word (nodes.Gate n)) ≡ Ok n
+unfolding named_gate_at
+named_gate_at-right names n h = rw (node-right 71 n h.0 h.1, h.2) refl
+
 pub party_at-right : (names : Names) (node : Node) → IsNode names node → party_at names (node_word node) ≡ Ok node
 unfolding party_at
 party_at-right names (nodes.Store n) h = rw (store_at-right names n h) refl
-party_at-right names (nodes.Gate n) h = absurd h
+party_at-right names (nodes.Gate n) h = rw (named_gate_at-right names n h) refl
 party_at-right names (nodes.Client n) h = rw (client_at-right names n h) refl
 
 -- the words between commas
@@ -90,6 +94,14 @@ module _ (names : Names) where
   unfolding new_store_at
   new_store_at-right n h new = rw (limited-right 83 16 n h.0 h.1 (omega arith), new) refl
 
+  pub new_gate_at-right : (n : ℕ) → IsUpTo 16 n → has_gate names n ≡ false → new_gate_at names (gate_word n) ≡ Ok (Some n)
+  unfolding new_gate_at
+  new_gate_at-right n h new = rw (limited-right 71 16 n h.0 h.1 (omega arith), new) refl
+
+  own_gate_at-right : (n : ℕ) → IsUpTo 16 n → has_gate names n ≡ true → own_gate_at names (gate_word n) ≡ Ok (Some n)
+  unfolding own_gate_at
+  own_gate_at-right n h has = rw (limited-right 71 16 n h.0 h.1 (omega arith), has) refl
+
   tables_in-right : (before : List (List ℕ)) (tables : List ℕ) → AllByRecursion (λ n. IsUpTo 64 n × (has_table names n ≡ true)) tables → NewTo before (map table_word tables)
       → tables_in names before (map table_word tables) ≡ Ok (Some tables)
   unfolding tables_in
@@ -110,9 +122,10 @@ module _ (names : Names) where
   unfolding new_name_at
   new_name_at-right name is new = rw (is, new) refl
 
-pub gate_at-right : gate_at (codes "-") ≡ Ok tt
+pub gate_at-right : (names : Names) (gate : Option ℕ) → IsGateway names gate → gate_at names (gateway_word gate) ≡ Ok (Some gate)
 unfolding gate_at
-gate_at-right = refl
+gate_at-right names None h = refl
+gate_at-right names (Some n) h = rw (own_gate_at-right names n h.0 h.1) refl
 
 pub scheme_at-right : (scheme : Scheme) → scheme_at (scheme_word scheme) ≡ Ok scheme
 unfolding scheme_at

@@ -18,14 +18,14 @@ use Rattle.script_text.specs.Verbs.{name_of}
 use Rattle.script_text.specs.Names.{Names, has_no_store, columns_of}
 use Rattle.script_text.specs.Places.{names_of}
 use Rattle.script_words.specs.Columns.{column_word}
-use Rattle.script_text.specs.Reading.{store_in, made_table, table_in, client_in, write_in, client_row_in, show_in}
+use Rattle.script_text.specs.Reading.{store_in, made_table, table_in, client_in, write_in, client_row_in, show_in, gate_in}
 use Rattle.script_text.specs.Reading.{begin_cr_in, conflicts_in, end_cr_in, resolve_in, resolve_all_in}
 use Rattle.script_text.specs.Reading.{sum_in, client_table_in, sync_in, pull_in, deliver_in, store_show_in, history_in, chunks_in}
 use Rattle.script_text.specs.Reading.{node_in, hold_in, free_in, work_in, work_all_in, start_in, crash_in, link_in, edit_in}
 use Rattle.script_text.specs.Reading.{unlimited, in_time, built_in, event_in, words_in}
 use Rattle.stab_base.specs.Row.{row_of}
 use Rattle.stab_base.specs.declared.node.Node.{Node}
-use Rattle.script_text.specs.Grammar.{SpelledBy, SpellsStore, SpellsTable, SpellsClient, SpellsWrite, SpellsShow, SpellsSum, SpellsSync}
+use Rattle.script_text.specs.Grammar.{SpelledBy, SpellsStore, SpellsTable, SpellsClient, SpellsWrite, SpellsShow, SpellsSum, SpellsSync, SpellsGate, gate_word, gateway_word}
 use Rattle.script_text.specs.Grammar.{SpellsPull, SpellsDeliver, SpellsStoreShow, SpellsHistory, SpellsChunks, SpellsHold, SpellsFree, SpellsWork, SpellsWorkAll, SpellsStart, SpellsCrash, client_word, store_word}
 use Rattle.script_text.specs.Grammar.{scheme_word, SpellsBeginCr, SpellsConflicts, SpellsEndCr, SpellsResolve, SpellsResolveAll}
 use Rattle.script_text.specs.Grammar.{table_word, tables_word, node_word, IsClient, IsTable, IsNode, verb_for, SpellsEdited, SpellsLink}
@@ -38,7 +38,7 @@ use Rattle.script_text.proofs.EditLemmas.{direction_at-right, change_in-right}
 use Rattle.script_text.proofs.ColumnLemmas.{some_columns_in-right}
 use Rattle.script_text.proofs.ContentLemmas.{content-right}
 use Rattle.script_text.proofs.VerbWords.{verb-again}
-use Rattle.script_text.proofs.Rights.{client_at-right, party_at-right, table_at-right, new_store_at-right, new_table_at-right}
+use Rattle.script_text.proofs.Rights.{client_at-right, party_at-right, table_at-right, new_store_at-right, new_gate_at-right, new_table_at-right}
 use Rattle.script_text.proofs.Rights.{new_client_at-right, tables_at-right, new_name_at-right}
 use Rattle.script_text.proofs.Rights.{gate_at-right, scheme_at-right}
 use Rattle.script_text.proofs.Rights.{chunk_at-right, row_at-right}
@@ -61,6 +61,15 @@ module _ (names : Names) where
       (event_in-right names verbs.Store (store_word store ∷ []) (events.Store store)
       (in_time-right names _ h.2
       ∙ word_in-right 1 _ (store_word store) [] _ (Some store) (new_store_at-right names store h.1 h.3)
+      ∙ rw (end_in-right 2) refl))
+
+  gate-right : (ws : List (List ℕ)) (gate : ℕ) → SpellsGate names ws gate → words_in names ws ≡ Ok (Ok (Some (events.Gate gate)))
+  unfolding gate_in
+  gate-right ws gate h =
+      rw h.0
+      (event_in-right names verbs.Gate (gate_word gate ∷ []) (events.Gate gate)
+      (in_time-right names _ h.2
+      ∙ word_in-right 1 _ (gate_word gate) [] _ (Some gate) (new_gate_at-right names gate h.1 h.3)
       ∙ rw (end_in-right 2) refl))
 
   client_table-right : (client table : ℕ) → IsClient names client → IsTable names table → client_table_in names (client_word client ∷ table_word table ∷ []) ≡ Ok (client, table)
@@ -249,11 +258,11 @@ module _ (names : Names) where
       → words_in names ws ≡ Ok (Ok (Some (events.Client client gate tables)))
   unfolding client_in
   client-right ws client gate tables h =
-      rw (h.0, h.2)
-      (event_in-right names verbs.Client (client_word client ∷ codes "-" ∷ tables_word tables ∷ []) (events.Client client None tables)
+      rw h.0
+      (event_in-right names verbs.Client (client_word client ∷ gateway_word gate ∷ tables_word tables ∷ []) (events.Client client gate tables)
       (in_time-right names _ h.5
       ∙ word_in-right 1 _ (client_word client) _ _ (Some client) (new_client_at-right names client h.1 h.6)
-      ∙ word_in-right 2 _ (codes "-") _ _ tt gate_at-right
+      ∙ word_in-right 2 _ (gateway_word gate) _ _ (Some gate) (gate_at-right names gate h.2)
       ∙ word_in-right 3 _ (tables_word tables) _ _ (Some tables) (tables_at-right names tables h.3 h.4)
       ∙ rw (end_in-right 4) refl))
 
@@ -274,7 +283,7 @@ module _ (names : Names) where
 
   pub spelled : (ws : List (List ℕ)) (e : Event) → SpelledBy names ws e → words_in names ws ≡ Ok (Ok (Some e))
   spelled ws (events.Store store) h = store-right ws store h
-  spelled ws (events.Gate gate) h = absurd h
+  spelled ws (events.Gate gate) h = gate-right ws gate h
   spelled ws (events.Table table schema) h = table-right ws table schema h
   spelled ws (events.Client client gate tables) h = client-right ws client gate tables h
   spelled ws (events.Write client table row content) h = write-right ws client table row content h

@@ -6,7 +6,7 @@ use Rattle.script_text.specs.declared.verb.EditVerb.{EditVerb}
 use Rattle.script_text.specs.declared.verb.Verb.TheVariants as verbs
 use Rattle.script_text.specs.Names.{Names, columns_of}
 use Rattle.script_text.specs.Places.{table_at}
-use Rattle.script_text.specs.Reading.{store_in, table_in, client_in, content_in, some_columns_in, write_in, client_row_in, show_in}
+use Rattle.script_text.specs.Reading.{store_in, gate_in, table_in, client_in, content_in, some_columns_in, write_in, client_row_in, show_in}
 use Rattle.script_text.specs.Reading.{begin_cr_in, conflicts_in, end_cr_in, choice_in, resolve_in, rule_in, resolve_all_in}
 use Rattle.script_text.specs.Reading.{sum_in, client_table_in, sync_in, pull_in, deliver_in, store_show_in, history_in, chunks_in}
 use Rattle.script_text.specs.Reading.{node_in, hold_in, free_in, work_in, work_all_in, start_in, crash_in, link_in, change_in, edit_in}
@@ -25,6 +25,12 @@ module _ (names : Names) (ws : List (List ℕ)) (f : BadLine) where
   unfolding store_in
   store-err h =
       word_in-err _ _ _ (drop 1 (places_of names verbs.Store)) (more_of verbs.Store (columns_named names ws)) f ws h (λ va a xa ia oa ha.
+      end-err 2 _ a f ha)
+
+  pub gate-err : gate_in names ws ≡ Err f → FirstFault 1 (places_of names verbs.Gate) (more_of verbs.Gate (columns_named names ws)) ws f
+  unfolding gate_in
+  gate-err h =
+      word_in-err _ _ _ (drop 1 (places_of names verbs.Gate)) (more_of verbs.Gate (columns_named names ws)) f ws h (λ va a xa ia oa ha.
       end-err 2 _ a f ha)
 
   pub client-err : client_in names ws ≡ Err f → FirstFault 1 (places_of names verbs.Client) (more_of verbs.Client (columns_named names ws)) ws f
@@ -180,6 +186,12 @@ module _ (names : Names) (ws : List (List ℕ)) (f : BadLine) where
   unfolding store_in
   store-fault h =
       word_in-fault _ _ _ (drop 1 (places_of names verbs.Store)) (more_of verbs.Store (columns_named names ws)) f ws h (λ va a xa ia oa ha.
+      end-fault 2 _ a f ha)
+
+  pub gate-fault : FirstFault 1 (places_of names verbs.Gate) (more_of verbs.Gate (columns_named names ws)) ws f → gate_in names ws ≡ Err f
+  unfolding gate_in
+  gate-fault h =
+      word_in-fault _ _ _ (drop 1 (places_of names verbs.Gate)) (more_of verbs.Gate (columns_named names ws)) f ws h (λ va a xa ia oa ha.
       end-fault 2 _ a f ha)
 
   pub client-fault : FirstFault 1 (places_of names verbs.Client) (more_of verbs.Client (columns_named names ws)) ws f → client_in names ws ≡ Err f

@@ -47,12 +47,13 @@ use Rattle.script_text.specs.Faults.{bad}
 use Rattle.script_words.specs.Words.{words_of, is_name, is_comment}
 use Rattle.script_text.specs.Verbs.{edit_name, name_of, is_unbuilt}
 use Rattle.script_text.specs.Places.{client_at, table_at, new_store_at, new_table_at, new_client_at, gate_at, tables_at}
+use Rattle.script_text.specs.Places.{new_gate_at, gate_number}
 use Rattle.script_text.specs.Places.{new_name_at, scheme_at, chunk_at, names_of, new_column_at, with_column, row_at}
 use Rattle.script_text.specs.Places.{value_behind, with_value, number_at, party_at, calls_at, passed, or_else}
 use Rattle.script_text.specs.Places.{store_number, table_number, direction_at, column_at, place_at}
 use Rattle.script_text.specs.Places.{next_change, with_change, way_at, rule_at}
 use Rattle.script_text.specs.Places.{client_number, tables_passed, parts_at}
-pub use Rattle.script_text.specs.Names.{Names, no_names, with_event, has_store, has_table, has_name, has_client}
+pub use Rattle.script_text.specs.Names.{Names, no_names, with_event, has_store, has_gate, has_table, has_name, has_client}
 pub use Rattle.script_text.specs.Names.{has_no_store, columns_of, column_number}
 
 -- a line that begins with `#`, and a line without a word
@@ -76,6 +77,9 @@ table_word table = codes "T" ++ decimal table
 abbrev pub store_word : ℕ → List ℕ
 store_word store = codes "S" ++ decimal store
 
+abbrev pub gate_word : ℕ → List ℕ
+gate_word gate = codes "G" ++ decimal gate
+
 -- a number that a declaration may give
 abbrev pub IsUpTo : ℕ → ℕ → Type 0
 IsUpTo most n = (1 ≤ n) × (n ≤ most)
@@ -85,6 +89,12 @@ abbrev pub SpellsStore : Names → List (List ℕ) → ℕ → Type 0
 SpellsStore names words store =
     (words ≡ codes "store" ∷ store_word store ∷ [])
     × IsUpTo 16 store × IsEarly names × (has_store names store ≡ false)
+
+-- `gate G`
+abbrev pub SpellsGate : Names → List (List ℕ) → ℕ → Type 0
+SpellsGate names words gate =
+    (words ≡ codes "gate" ∷ gate_word gate ∷ [])
+    × IsUpTo 16 gate × IsEarly names × (has_gate names gate ≡ false)
 
 -- a number that names a client or a table that is declared
 abbrev pub IsClient : Names → ℕ → Type 0
@@ -121,11 +131,20 @@ abbrev pub tables_word : List ℕ → List ℕ
 tables_word [] = codes "-"
 tables_word (table ∷ tables) = join_with_byte 44 (map table_word (table ∷ tables))
 
--- `client C - TABLES`
+-- the gateway of a client, or `-` for none
+abbrev pub gateway_word : Option ℕ → List ℕ
+gateway_word None = codes "-"
+gateway_word (Some gate) = gate_word gate
+
+abbrev pub IsGateway : Names → Option ℕ → Type 0
+IsGateway names None = Unit {0}
+IsGateway names (Some gate) = IsUpTo 16 gate × (has_gate names gate ≡ true)
+
+-- `client C G TABLES`
 abbrev pub SpellsClient : Names → List (List ℕ) → ℕ → Option ℕ → List ℕ → Type 0
 SpellsClient names words client gate tables =
-    (words ≡ codes "client" ∷ client_word client ∷ codes "-" ∷ tables_word tables ∷ [])
-    × IsUpTo 64 client × (gate ≡ None)
+    (words ≡ codes "client" ∷ client_word client ∷ gateway_word gate ∷ tables_word tables ∷ [])
+    × IsUpTo 64 client × IsGateway names gate
     × AllByRecursion (λ table. IsUpTo 64 table × (has_table names table ≡ true)) tables
     × IsDistinct (λ m n. m == n) tables
     × IsEarly names × (has_client names client ≡ false)
@@ -287,13 +306,13 @@ SpellsChunks names words table = (words ≡ codes "chunks" ∷ table_word table 
 
 abbrev pub node_word : Node → List ℕ
 node_word (nodes.Store store) = store_word store
-node_word (nodes.Gate gate) = codes "G" ++ decimal gate
+node_word (nodes.Gate gate) = gate_word gate
 node_word (nodes.Client client) = client_word client
 
--- a Store or a client that is declared; no gateway can be yet
+-- a node that is declared
 abbrev pub IsNode : Names → Node → Type 0
 IsNode names (nodes.Store store) = (1 ≤ store) × (store < 2 ^ 32) × (has_store names store ≡ true)
-IsNode names (nodes.Gate gate) = ⊥
+IsNode names (nodes.Gate gate) = (1 ≤ gate) × (gate < 2 ^ 32) × (has_gate names gate ≡ true)
 IsNode names (nodes.Client client) = IsClient names client
 
 -- `VERB N`
@@ -328,7 +347,7 @@ SpellsCrash names words node calls pick =
 
 abbrev pub SpelledBy : Names → List (List ℕ) → Event → Type 0
 SpelledBy names words (events.Store store) = SpellsStore names words store
-SpelledBy names words (events.Gate gate) = ⊥
+SpelledBy names words (events.Gate gate) = SpellsGate names words gate
 SpelledBy names words (events.Table table schema) = SpellsTable names words table schema
 SpelledBy names words (events.Client client gate tables) = SpellsClient names words client gate tables
 SpelledBy names words (events.Write client table row content) = SpellsWrite names words client table row content
@@ -426,12 +445,13 @@ FirstFaultOf places at words fault = FirstFault at places NoMore words fault
 -- the places of a line that is built, behind its verb
 abbrev pub places_of : Names → Verb → List (List ℕ → Option Code)
 places_of names verbs.Store = (λ word. fault_of (new_store_at names word)) ∷ []
+places_of names verbs.Gate = (λ word. fault_of (new_gate_at names word)) ∷ []
 places_of names verbs.Table =
     (λ word. fault_of (new_table_at names word)) ∷ (λ word. fault_of (new_name_at names word))
     ∷ (λ word. fault_of (scheme_at word))
     ∷ (λ word. fault_of (chunk_at word)) ∷ []
 places_of names verbs.Client =
-    (λ word. fault_of (new_client_at names word)) ∷ (λ word. fault_of (gate_at word))
+    (λ word. fault_of (new_client_at names word)) ∷ (λ word. fault_of (gate_at names word))
     ∷ (λ word. fault_of (tables_at names word)) ∷ []
 places_of names verbs.Write =
     (λ word. fault_of (client_at names word)) ∷ (λ word. fault_of (table_at names word))
@@ -500,6 +520,7 @@ AllFault columns at (word ∷ words) fault =
 -- what stands behind them, where these are the columns of the table that the line names
 abbrev pub more_of : Verb → List Column → Rest
 more_of verbs.Store columns = NoMore
+more_of verbs.Gate columns = NoMore
 more_of verbs.Table columns = OneOrMore ColumnsFault
 more_of verbs.Client columns = NoMore
 more_of verbs.Write columns = OneOrMore ValuesFault
@@ -528,6 +549,7 @@ more_of verbs.Start columns = NoMore
 -- a fault of the verb at its place: a `table` without a Store, and a declaration behind an event
 abbrev pub verb_fault : Names → Verb → Option Code
 verb_fault names verbs.Store = if names.started then Some Late else None
+verb_fault names verbs.Gate = if names.started then Some Late else None
 verb_fault names verbs.Table = if has_no_store names then Some NotDeclared
     else (if names.started then Some Late else None)
 verb_fault names verbs.Client = if names.started then Some Late else None
@@ -589,9 +611,11 @@ columns_passed columns = if nat_lt 32 (length columns) then Some 8 else None
 -- the limit that the leftmost word behind a verb passes whose number, or whose place among columns, is above its own
 abbrev pub limit_of : Verb → List (List ℕ) → Option ℕ
 limit_of verbs.Store (store ∷ words) = passed 7 (store_number store)
+limit_of verbs.Gate (gate ∷ words) = passed 6 (gate_number gate)
 limit_of verbs.Table (table ∷ words) = or_else (passed 4 (table_number table)) (columns_passed (drop 3 words))
 limit_of verbs.Client (client ∷ gate ∷ tables ∷ words) =
-    or_else (passed 5 (client_number client)) (tables_passed (parts_at tables))
+    or_else (passed 5 (client_number client))
+    (or_else (passed 6 (gate_number gate)) (tables_passed (parts_at tables)))
 limit_of verb words = None
 
 abbrev pub WordsLimit : List (List ℕ) → ℕ → Type 0

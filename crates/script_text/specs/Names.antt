@@ -25,18 +25,19 @@ IsSetOf keys words = (w : List ℕ) → list_any (is_at (slice_cmp nat_cmp w)) k
 -- numbers in rising order, tables with their schema, table names in the order of their bytes
 pub record Names : Type 0 where
   pub stores : List ℕ
+  pub gates : List ℕ
   pub tables : List (ℕ × Schema)
   pub names : List (List ℕ)
   pub clients : List ℕ
   pub started : Bool
 
 abbrev pub no_names : Names
-no_names = record { stores = []; tables = []; names = []; clients = []; started = false }
+no_names = record { stores = []; gates = []; tables = []; names = []; clients = []; started = false }
 
 -- the event's declaration is added, or that an event was read
 abbrev pub with_event : Names → Event → Names
 with_event n (events.Store store) = record n { stores = insert_key nat_cmp n.stores store }
-with_event n (events.Gate gate) = n
+with_event n (events.Gate gate) = record n { gates = insert_key nat_cmp n.gates gate }
 with_event n (events.Table table schema) =
     record n {
       tables = insert_entry nat_cmp n.tables table schema;
@@ -68,6 +69,9 @@ with_event n (events.Start node) = record n { started = true }
 
 abbrev pub has_store : Names → ℕ → Bool
 has_store n store = list_any (is_at (nat_cmp store)) n.stores
+
+abbrev pub has_gate : Names → ℕ → Bool
+has_gate n gate = list_any (is_at (nat_cmp gate)) n.gates
 
 abbrev pub has_table : Names → ℕ → Bool
 has_table n table = is_some (lookup (is_at (nat_cmp table)) n.tables)

@@ -20,7 +20,6 @@ use Rattle.row_value.specs.declared.schema.Scheme.{Scheme}
 use Rattle.row_value.specs.declared.schema.Scheme.TheVariants as schemes
 use Rattle.script_words.specs.declared.code.Code.{Code}
 use Rattle.script_words.specs.declared.code.Code.TheVariants.{NoNumber, NoName, NoRow, NoValue, NotDeclared, Twice}
-use Rattle.script_words.specs.declared.code.Code.TheVariants.{Unbuilt}
 use Rattle.script_words.specs.declared.values.Value.{Value}
 use Rattle.script_words.specs.declared.values.Value.TheVariants.{OfCell, OfObject}
 use Rattle.script_words.specs.Words.{is_number, is_length, is_name, is_among, sides_of}
@@ -30,7 +29,7 @@ use Rattle.script_text.specs.declared.resolving.Rule.{Rule}
 use Rattle.script_text.specs.declared.resolving.Rule.TheVariants as rules
 use Rattle.script_text.specs.declared.resolving.Way.{Way}
 use Rattle.script_text.specs.declared.resolving.Way.TheVariants as ways
-use Rattle.script_text.specs.Names.{Names, has_store, has_table, has_name, has_client, column_number}
+use Rattle.script_text.specs.Names.{Names, has_store, has_gate, has_table, has_name, has_client, column_number}
 
 infixl 10 ◌>>=◌
 abbrev pub ◌>>=◌ : {A B E : Type 0} → Result A E → (A → Result B E) → Result B E
@@ -81,7 +80,7 @@ abbrev pub fresh : (ℕ → Bool) → Option ℕ → Result (Option ℕ) Code
 fresh has None = Ok None
 fresh has (Some n) = if has n then Err Twice else Ok (Some n)
 
--- the number of a table that a client opens, unless it is above its limit
+-- the number of something that is declared, unless it is above its limit
 abbrev pub opened : (ℕ → Bool) → Option ℕ → Result (Option ℕ) Code
 opened has None = Ok None
 opened has (Some n) = if has n then Ok (Some n) else Err NotDeclared
@@ -92,16 +91,19 @@ client_at names word = node_at 67 word >>= known (has_client names)
 unfoldable pub store_at : Names → List ℕ → Result ℕ Code
 store_at names word = node_at 83 word >>= known (has_store names)
 
+unfoldable pub named_gate_at : Names → List ℕ → Result ℕ Code
+named_gate_at names word = node_at 71 word >>= known (has_gate names)
+
 -- the word's first byte is this letter
 abbrev pub begins_with : ℕ → List ℕ → Bool
 begins_with letter [] = false
 begins_with letter (b ∷ bytes) = b == letter
 
--- a Store or a client that is declared; no gateway can be yet
+-- a node that is declared
 unfoldable pub party_at : Names → List ℕ → Result Node Code
 party_at names word =
     if begins_with 83 word then (store_at names word >>= λ number. Ok (nodes.Store number))
-    else if begins_with 71 word then (node_at 71 word >>= λ number. Err NotDeclared)
+    else if begins_with 71 word then (named_gate_at names word >>= λ number. Ok (nodes.Gate number))
     else (client_at names word >>= λ number. Ok (nodes.Client number))
 
 unfoldable pub table_at : Names → List ℕ → Result ℕ Code
@@ -110,6 +112,10 @@ table_at names word = node_at 84 word >>= known (has_table names)
 -- a Store of 16
 abbrev pub store_number : List ℕ → Result (Option ℕ) Code
 store_number word = limited_at 83 16 word
+
+-- a gateway of 16
+abbrev pub gate_number : List ℕ → Result (Option ℕ) Code
+gate_number word = limited_at 71 16 word
 
 -- a table of 64
 abbrev pub table_number : List ℕ → Result (Option ℕ) Code
@@ -122,15 +128,27 @@ client_number word = limited_at 67 64 word
 unfoldable pub new_store_at : Names → List ℕ → Result (Option ℕ) Code
 new_store_at names word = store_number word >>= fresh (has_store names)
 
+unfoldable pub new_gate_at : Names → List ℕ → Result (Option ℕ) Code
+new_gate_at names word = gate_number word >>= fresh (has_gate names)
+
 unfoldable pub new_table_at : Names → List ℕ → Result (Option ℕ) Code
 new_table_at names word = table_number word >>= fresh (has_table names)
 
 unfoldable pub new_client_at : Names → List ℕ → Result (Option ℕ) Code
 new_client_at names word = client_number word >>= fresh (has_client names)
 
--- `-`; a gateway is a form that isn't built
-unfoldable pub gate_at : List ℕ → Result (Unit {0}) Code
-gate_at word = if bytes_eq word (codes "-") then Ok tt else (node_at 71 word >>= λ n. Err Unbuilt)
+-- the gateway that a client has; None where the number is above its limit
+unfoldable pub own_gate_at : Names → List ℕ → Result (Option ℕ) Code
+own_gate_at names word = gate_number word >>= opened (has_gate names)
+
+abbrev pub chosen : Option ℕ → Option (Option ℕ)
+chosen None = None
+chosen (Some gate) = Some (Some gate)
+
+-- `-` is none
+unfoldable pub gate_at : Names → List ℕ → Result (Option (Option ℕ)) Code
+gate_at names word =
+    if bytes_eq word (codes "-") then Ok (Some None) else (own_gate_at names word >>= λ gate. Ok (chosen gate))
 
 abbrev pub is_comma : ℕ → Bool
 is_comma b = b == 44

@@ -35,7 +35,7 @@ use Rattle.script_text.specs.Verbs.{verb_of, is_unbuilt}
 use Rattle.script_text.specs.Names.{Names, has_no_store, columns_of}
 use Rattle.std.specs.Borrow.{Bor}
 use Rattle.script_words.specs.Words.{texts, words_of, is_comment}
-use Rattle.script_text.specs.Places.{◌>>=◌, client_at, table_at, new_store_at, new_table_at, new_client_at, gate_at}
+use Rattle.script_text.specs.Places.{◌>>=◌, client_at, table_at, new_store_at, new_gate_at, new_table_at, new_client_at, gate_at}
 use Rattle.script_text.specs.Places.{tables_at, new_name_at, scheme_at, chunk_at, new_column_at, with_column, row_at}
 use Rattle.script_text.specs.Places.{Values, value_behind, with_value, number_at, party_at, calls_at}
 use Rattle.script_text.specs.Places.{direction_at, column_at, place_at, next_change, with_change, way_at, rule_at}
@@ -78,6 +78,15 @@ store_in names words =
     word_in 1 (new_store_at names) words (λ store a.
     end_in 2 a >>= λ done. Ok (made_store store))
 
+abbrev pub made_gate : Option ℕ → Result Event ℕ
+made_gate None = Err 6
+made_gate (Some gate) = Ok (events.Gate gate)
+
+unfoldable pub gate_in : Names → List (List ℕ) → Result (Result Event ℕ) BadLine
+gate_in names words =
+    word_in 1 (new_gate_at names) words (λ gate a.
+    end_in 2 a >>= λ done. Ok (made_gate gate))
+
 -- each word judged by what stands before it, and added to that
 unfoldable pub each_in : {R X : Type 0} → (R → List ℕ → Result X Code) → (R → X → R) → ℕ → R → List (List ℕ)
     → Result R BadLine
@@ -107,17 +116,18 @@ table_in names words =
     Ok (made_table table (record { name = name; scheme = scheme; chunk = chunk; columns = columns }))))))
 
 -- a client that opens tables
-abbrev pub made_client : Option ℕ → Option (List ℕ) → Result Event ℕ
-made_client None tables = Err 5
-made_client (Some client) None = Err 4
-made_client (Some client) (Some tables) = Ok (events.Client client None tables)
+abbrev pub made_client : Option ℕ → Option (Option ℕ) → Option (List ℕ) → Result Event ℕ
+made_client None gate tables = Err 5
+made_client (Some client) None tables = Err 6
+made_client (Some client) (Some gate) None = Err 4
+made_client (Some client) (Some gate) (Some tables) = Ok (events.Client client gate tables)
 
 unfoldable pub client_in : Names → List (List ℕ) → Result (Result Event ℕ) BadLine
 client_in names words =
     word_in 1 (new_client_at names) words (λ client a.
-    word_in 2 gate_at a (λ gate b.
+    word_in 2 (gate_at names) a (λ gate b.
     word_in 3 (tables_at names) b (λ tables c.
-    end_in 4 c >>= λ done. Ok (made_client client tables))))
+    end_in 4 c >>= λ done. Ok (made_client client gate tables))))
 
 abbrev pub values_in : ℕ → Values → List (List ℕ) → Result Values BadLine
 values_in at row words = each_in value_behind with_value at row words
@@ -331,6 +341,7 @@ in_time names read = if names.started then Err (bad Late 0) else read
 
 abbrev pub built_in : Names → Verb → List (List ℕ) → Result (Result Event ℕ) BadLine
 built_in names verbs.Store words = in_time names (store_in names words)
+built_in names verbs.Gate words = in_time names (gate_in names words)
 built_in names verbs.Table words = if has_no_store names then Err (bad NotDeclared 0)
     else in_time names (table_in names words)
 built_in names verbs.Client words = in_time names (client_in names words)

@@ -16,6 +16,7 @@ edit_name changes.Delete = codes "delete"
 -- of the lines that are built
 abbrev pub name_of : Verb → List ℕ
 name_of verbs.Store = codes "store"
+name_of verbs.Gate = codes "gate"
 name_of verbs.Table = codes "table"
 name_of verbs.Client = codes "client"
 name_of verbs.Write = codes "write"
@@ -44,6 +45,7 @@ name_of verbs.Start = codes "start"
 unfoldable pub verb_of : List ℕ → Option Verb
 verb_of word =
     if bytes_eq word (codes "store") then Some verbs.Store
+    else if bytes_eq word (codes "gate") then Some verbs.Gate
     else if bytes_eq word (codes "table") then Some verbs.Table
     else if bytes_eq word (codes "client") then Some verbs.Client
     else if bytes_eq word (codes "write") then Some verbs.Write
@@ -75,7 +77,7 @@ verb_of word =
 -- lines that set things up that aren't built
 unfoldable pub is_setting_verb : List ℕ → Bool
 is_setting_verb word =
-    is_among word (codes "gate" ∷ codes "draft" ∷ codes "create" ∷ codes "drop" ∷ codes "subscribe"
+    is_among word (codes "draft" ∷ codes "create" ∷ codes "drop" ∷ codes "subscribe"
     ∷ codes "unsubscribe" ∷ codes "writesync" ∷ [])
 
 -- lines of rows that aren't built

@@ -7,8 +7,8 @@ ghost use Rattle.std.specs.Set.{remove_key};
 ghost use Rattle.std.specs.BTreeMap.{is_at};
 ghost use Rattle.std.specs.BTreeSet.{insert_key};
 ghost use Rattle.table_model.specs.declared.event.Event.TheVariants as events;
-ghost use Rattle.script_text.specs.Names.{texts_of, no_names, with_event, has_store, has_table, has_name, has_client};
-ghost use Rattle.script_text.specs.Names.{has_no_store, columns_of, column_number};
+ghost use Rattle.script_text.specs.Names.{texts_of, no_names, with_event, has_store, has_gate, has_table, has_name};
+ghost use Rattle.script_text.specs.Names.{has_client, has_no_store, columns_of, column_number};
 
 use crate::declared_table::DeclaredTable;
 use row_value::Schema;
@@ -21,6 +21,7 @@ use table_model::Event;
 #[derive(Drop)]
 pub struct Declared {
     stores: BTreeSet<u32>,
+    gates: BTreeSet<u32>,
     tables: BTreeMap<u32, DeclaredTable>,
     names: BTreeSet<Vec<u8>>,
     clients: BTreeSet<u32>,
@@ -36,6 +37,7 @@ impl Model for Declared {
 
     ghost view = { λ d. record {
       stores = d.stores.keys;
+      gates = d.gates.keys;
       tables = d.tables.entries;
       names = map (λ v. v.items) d.names.keys;
       clients = d.clients.keys;
@@ -77,6 +79,7 @@ impl Declared {
     {
         Declared {
             stores: BTreeSet::new(alloc),
+            gates: BTreeSet::new(alloc),
             tables: BTreeMap::new(alloc),
             names: BTreeSet::new(alloc),
             clients: BTreeSet::new(alloc),
@@ -89,6 +92,12 @@ impl Declared {
         ensures { result ≡ has_store self.now store }
     {
         self.stores.contains(&store)
+    }
+
+    pub(crate) fn has_gate(&self, gate: u32) -> bool
+        ensures { result ≡ has_gate self.now gate }
+    {
+        self.gates.contains(&gate)
     }
 
     pub(crate) fn has_table(&self, table: u32) -> bool
@@ -158,7 +167,10 @@ impl Declared {
                 let _added = self.stores.insert(*store)?;
                 Ok(())
             }
-            Event::Gate { .. } => Ok(()),
+            Event::Gate { gate } => {
+                let _added = self.gates.insert(*gate)?;
+                Ok(())
+            }
             Event::Table { table, schema } => self.add_table(*table, schema),
             Event::Client { client, .. } => {
                 let _added = self.clients.insert(*client)?;

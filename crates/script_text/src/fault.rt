@@ -16,6 +16,11 @@ pub(crate) const CLIENTS: u32 = 5;
 
 pub(crate) const MOST_CLIENTS: u32 = 64;
 
+/// The number of the limit on gateways, and how many there may be.
+pub(crate) const GATES: u32 = 6;
+
+pub(crate) const MOST_GATES: u32 = 16;
+
 /// The number of the limit on Stores, and how many there may be.
 pub(crate) const STORES: u32 = 7;
 

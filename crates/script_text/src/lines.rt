@@ -1,8 +1,8 @@
 ghost use Rattle.std.specs.Prelude.{◌≡◌};
 ghost use Rattle.script_words.specs.Words.{texts};
 ghost use Rattle.script_text.specs.Places.{tables_at};
-ghost use Rattle.script_text.specs.Reading.{Reads, Makes, Tells, placed, made_table, made_client, store_in, table_in};
-ghost use Rattle.script_text.specs.Reading.{client_in, write_in, client_row_in, show_in, sum_in, client_table_in};
+ghost use Rattle.script_text.specs.Reading.{Reads, Makes, Tells, placed, made_table, made_client, store_in, gate_in};
+ghost use Rattle.script_text.specs.Reading.{table_in, client_in, write_in, client_row_in, show_in, sum_in, client_table_in};
 ghost use Rattle.script_text.specs.Reading.{sync_in, pull_in, begin_cr_in, conflicts_in, end_cr_in};
 ghost use Rattle.script_text.specs.Reading.{deliver_in, store_show_in, history_in, chunks_in, built_in, event_in};
 
@@ -10,14 +10,16 @@ use crate::columns::some_columns;
 use crate::contents::some_content;
 use crate::declared::Declared;
 use crate::edits::edit_line;
-use crate::fault::{BadLine, CLIENTS, COLUMNS, MOST_COLUMNS, STORES, ScriptFault, TABLES, bad};
+use crate::fault::{
+    BadLine, CLIENTS, COLUMNS, GATES, MOST_COLUMNS, STORES, ScriptFault, TABLES, bad,
+};
 use crate::next::{end, next_word, placed};
 use crate::nodes::{
     crash_line, free_line, hold_line, link_line, start_line, work_all_line, work_line,
 };
 use crate::places::{
-    chunk_at, client_at, gate_at, new_client_at, new_name_at, new_store_at, new_table_at,
-    number_at, row_at, scheme_at, table_at, tables_at,
+    chunk_at, client_at, gate_at, new_client_at, new_gate_at, new_name_at, new_store_at,
+    new_table_at, number_at, row_at, scheme_at, table_at, tables_at,
 };
 use crate::resolving::{resolve_all_line, resolve_line};
 use crate::verb::{Verb, is_unbuilt, verb_of};
@@ -156,6 +158,19 @@ fn store_line(names: &Declared, words: &[&str]) -> Result<Event, ScriptFault>
     }
 }
 
+#[tactic(auto, unfolding(crate::specs::Reading::gate_in, crate::specs::Reading::word_in))]
+fn gate_line(names: &Declared, words: &[&str]) -> Result<Event, ScriptFault>
+    ensures { Tells result (gate_in names.now (texts words.now)) }
+{
+    let (word, rest) = next_word(words, 1)?;
+    let gate = placed(1, new_gate_at(names, word))?;
+    end(rest, 2)?;
+    match gate {
+        Some(gate) => Ok(Event::Gate { gate }),
+        None => Err(ScriptFault::Limit(GATES)),
+    }
+}
+
 fn table_event(table: Option<u32>, schema: Schema) -> Result<Event, ScriptFault>
     ensures { Makes result (made_table table schema) }
 {
@@ -208,18 +223,25 @@ fn tables_placed(
     }
 }
 
-fn client_event(client: Option<u32>, tables: Option<Tables>) -> Result<Event, ScriptFault>
-    ensures { Makes result (made_client client tables) }
+fn client_event(
+    client: Option<u32>,
+    gate: Option<Option<u32>>,
+    tables: Option<Tables>,
+) -> Result<Event, ScriptFault>
+    ensures { Makes result (made_client client gate tables) }
 {
     let Some(client) = client else {
         return Err(ScriptFault::Limit(CLIENTS));
+    };
+    let Some(gate) = gate else {
+        return Err(ScriptFault::Limit(GATES));
     };
     let Some(tables) = tables else {
         return Err(ScriptFault::Limit(TABLES));
     };
     Ok(Event::Client {
         client,
-        gate: None,
+        gate,
         tables,
     })
 }
@@ -231,11 +253,11 @@ fn client_line(alloc: Global, names: &Declared, words: &[&str]) -> Result<Event,
     let (word, rest) = next_word(words, 1)?;
     let client = placed(1, new_client_at(names, word))?;
     let (word, rest) = next_word(rest, 2)?;
-    placed(2, gate_at(word))?;
+    let gate = placed(2, gate_at(names, word))?;
     let (word, rest) = next_word(rest, 3)?;
     let tables = tables_placed(alloc, names, word, 3)?;
     end(rest, 4)?;
-    client_event(client, tables)
+    client_event(client, gate, tables)
 }
 
 #[tactic(auto, unfolding(crate::specs::Reading::write_in, crate::specs::Reading::word_in))]
@@ -291,6 +313,7 @@ fn built_line(
         Verb::Table if names.has_no_store() => Err(bad(Code::NotDeclared, 0).into()),
         _ if names.has_started() => Err(bad(Code::Late, 0).into()),
         Verb::Store => store_line(names, words),
+        Verb::Gate => gate_line(names, words),
         Verb::Table => table_line(alloc, names, words),
         Verb::Client => client_line(alloc, names, words),
     }

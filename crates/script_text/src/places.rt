@@ -3,14 +3,14 @@ ghost use Rattle.std.specs.List.{slice_split};
 ghost use Rattle.script_words.specs.Words.{is_number, texts};
 ghost use Rattle.script_words.specs.Codes.{Judges};
 ghost use Rattle.script_text.specs.Places.{small, node_at, limited_at, opened_at, joined, alone, client_at};
-ghost use Rattle.script_text.specs.Places.{table_at, new_store_at, new_table_at, new_client_at, gate_at, tables_in};
-ghost use Rattle.script_text.specs.Places.{tables_at, is_comma, seen, new_name_at, scheme_at, chunk_at, row_at};
+ghost use Rattle.script_text.specs.Places.{table_at, new_store_at, new_gate_at, new_table_at, new_client_at};
+ghost use Rattle.script_text.specs.Places.{gate_at, own_gate_at, named_gate_at, tables_in, tables_at, is_comma, seen, new_name_at, scheme_at, chunk_at, row_at};
 ghost use Rattle.script_text.specs.Places.{number_at, number_to, store_at, begins_with, party_at};
 ghost use Rattle.script_text.specs.Places.{direction_at, column_at};
 ghost use Rattle.script_text.specs.Names.{columns_of};
 
 use crate::declared::{Declared, put_name};
-use crate::fault::{MOST_CLIENTS, MOST_STORES, MOST_TABLES};
+use crate::fault::{MOST_CLIENTS, MOST_GATES, MOST_STORES, MOST_TABLES};
 use row_value::{RowId, Scheme, Sequence};
 use script_words::{Code, ValueFault, is_length, is_name, is_number};
 use stab_base::Node;
@@ -70,7 +70,17 @@ fn names_a_gateway(word: &str) -> bool
     matches!(word.as_bytes(), [b'G', ..])
 }
 
-// A Store or a client that is declared; no gateway can be yet.
+#[tactic(auto, unfolding(crate::specs::Places::named_gate_at))]
+fn named_gate_at(names: &Declared, word: &str) -> Result<u32, Code>
+    ensures { result ≡ named_gate_at names.now word.now }
+{
+    match node_at('G', word)? {
+        Some(number) if names.has_gate(number) => Ok(number),
+        _ => Err(Code::NotDeclared),
+    }
+}
+
+// A node that is declared.
 #[tactic(auto, unfolding(crate::specs::Places::party_at))]
 pub(crate) fn party_at(names: &Declared, word: &str) -> Result<Node, Code>
     ensures { result ≡ party_at names.now word.now }
@@ -80,8 +90,8 @@ pub(crate) fn party_at(names: &Declared, word: &str) -> Result<Node, Code>
         return Ok(Node::Store(store));
     }
     if names_a_gateway(word) {
-        let _number = node_at('G', word)?;
-        return Err(Code::NotDeclared);
+        let gate = named_gate_at(names, word)?;
+        return Ok(Node::Gate(gate));
     }
     let client = client_at(names, word)?;
     Ok(Node::Client(client))
@@ -119,6 +129,16 @@ pub(crate) fn new_store_at(names: &Declared, word: &str) -> Result<Option<u32>, 
     }
 }
 
+#[tactic(auto, unfolding(crate::specs::Places::new_gate_at))]
+pub(crate) fn new_gate_at(names: &Declared, word: &str) -> Result<Option<u32>, Code>
+    ensures { result ≡ new_gate_at names.now word.now }
+{
+    match limited_at('G', MOST_GATES, word)? {
+        Some(number) if names.has_gate(number) => Err(Code::Twice),
+        number => Ok(number),
+    }
+}
+
 #[tactic(auto, unfolding(crate::specs::Places::new_table_at))]
 pub(crate) fn new_table_at(names: &Declared, word: &str) -> Result<Option<u32>, Code>
     ensures { result ≡ new_table_at names.now word.now }
@@ -139,15 +159,29 @@ pub(crate) fn new_client_at(names: &Declared, word: &str) -> Result<Option<u32>,
     }
 }
 
+// The gateway that a client has; None is a number above the limit.
+#[tactic(auto, unfolding(crate::specs::Places::own_gate_at))]
+fn own_gate_at(names: &Declared, word: &str) -> Result<Option<u32>, Code>
+    ensures { result ≡ own_gate_at names.now word.now }
+{
+    match limited_at('G', MOST_GATES, word)? {
+        Some(number) if !names.has_gate(number) => Err(Code::NotDeclared),
+        number => Ok(number),
+    }
+}
+
+// A client's gateway, or that it has none; None is a number above the limit.
 #[tactic(auto, unfolding(crate::specs::Places::gate_at))]
-pub(crate) fn gate_at(word: &str) -> Result<(), Code>
-    ensures { result ≡ gate_at word.now }
+pub(crate) fn gate_at(names: &Declared, word: &str) -> Result<Option<Option<u32>>, Code>
+    ensures { result ≡ gate_at names.now word.now }
 {
     if word == "-" {
-        return Ok(());
+        return Ok(Some(None));
     }
-    let _number = node_at('G', word)?;
-    Err(Code::Unbuilt)
+    match own_gate_at(names, word)? {
+        Some(gate) => Ok(Some(Some(gate))),
+        None => Ok(None),
+    }
 }
 
 // A table that a client opens; None is a number above the limit.

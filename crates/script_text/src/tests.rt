@@ -64,7 +64,7 @@ pub(crate) fn check(
     Ok(())
 }
 
-const AT_THE_START: [(&str, u32, usize); 60] = [
+const AT_THE_START: [(&str, u32, usize); 67] = [
     ("", 0, 0),
     ("   ", 0, 0),
     ("# a remark", 0, 0),
@@ -74,7 +74,15 @@ const AT_THE_START: [(&str, u32, usize); 60] = [
     ("Store S1", 1, 0),
     ("break C1 T1 0 0", 1, 0),
     ("syncs C1 T1", 1, 0),
-    ("gate G1", 12, 0),
+    ("gate G1", 0, 0),
+    ("gate G16", 0, 0),
+    ("gate", 2, 1),
+    ("gate G1 G2", 3, 2),
+    ("gate G17 G1", 3, 2),
+    ("gate G0", 5, 1),
+    ("gate G01", 5, 1),
+    ("gate S1", 5, 1),
+    ("draft T1 notes causal 64 n:int", 12, 0),
     ("resolve_all C1 T1 mine", 8, 1),
     ("settle", 12, 0),
     ("  store   S1  ", 0, 0),
@@ -100,13 +108,12 @@ const AT_THE_START: [(&str, u32, usize); 60] = [
     ("client C1 - T65,T65", 9, 3),
     ("client C1 - T65,T2", 8, 3),
     ("client C1 - T65 T1", 3, 4),
-    ("client C1 G17 T65", 12, 2),
-    ("client C65 G1 T65", 12, 2),
+    ("client C65 G1 T65", 8, 2),
     ("client C65 - T1", 8, 3),
     ("client C65", 2, 2),
     ("store S17 S1", 3, 2),
     ("client C1 - S1", 5, 3),
-    ("client C1 G1 T1", 12, 2),
+    ("client C1 G1 T1", 8, 2),
     ("client C1 x T1", 5, 2),
     ("client C2 - T1", 8, 3),
     ("client C - T1", 5, 1),
@@ -294,7 +301,13 @@ fn refusals_behind_all_declarations(rt: HostRuntime) -> Result<(), Fail> {
     check(&rt, rt.alloc(), &names, &BEHIND_DECLARATIONS)
 }
 
-const PASSED: [(&str, u32); 9] = [
+const PASSED: [(&str, u32); 15] = [
+    ("gate G17", 6),
+    ("gate G4294967297", 6),
+    ("client C1 G17 T1", 6),
+    ("client C1 G17 T65", 6),
+    ("client C65 G17 T65", 5),
+    ("client C1 G18446744073709551617 -", 6),
     ("store S17", 7),
     ("store S4294967297", 7),
     ("table T65 notes2 eventual 64 n:int", 4),
@@ -305,6 +318,50 @@ const PASSED: [(&str, u32); 9] = [
     ("client C65 - T1,T65", 5),
     ("client C18446744073709551617 - T65,T1,T66", 5),
 ];
+
+const BEHIND_A_GATEWAY: [(&str, u32, usize); 15] = [
+    ("gate G1", 9, 1),
+    ("gate G2", 0, 0),
+    ("store S1", 0, 0),
+    ("client C1 G1 -", 0, 0),
+    ("client C1 G2 -", 8, 2),
+    ("client C1 g1 -", 5, 2),
+    ("client C1 G0 -", 5, 2),
+    ("client C1 G1 T1", 8, 3),
+    ("hold G1", 0, 0),
+    ("free G1", 0, 0),
+    ("work G1", 0, 0),
+    ("do G1", 0, 0),
+    ("crash G1 0 0", 0, 0),
+    ("start G1", 0, 0),
+    ("start G2", 8, 1),
+];
+
+#[test]
+fn refusals_behind_a_gateway(rt: HostRuntime) -> Result<(), Fail> {
+    let names = behind(rt.alloc(), &["gate G1"])?;
+    check(&rt, rt.alloc(), &names, &BEHIND_A_GATEWAY)
+}
+
+#[test]
+fn a_client_has_the_gateway_of_its_line(rt: HostRuntime) -> Result<(), Fail> {
+    let alloc = rt.alloc();
+    let names = behind(alloc, &["gate G16", "gate G3"])?;
+    for (line, number) in [
+        ("client C1 G16 -", Some(16)),
+        ("client C1 G3 -", Some(3)),
+        ("client C1 - -", None),
+    ] {
+        let event = parse_line(alloc, line.as_bytes(), &names)?.ok_or("passed over")?;
+        assert!(rt;
+            matches!(&event, Event::Client { gate, .. } if *gate == number),
+            "{line}"
+        );
+    }
+    let event = parse_line(alloc, b"gate G7", &names)?.ok_or("passed over")?;
+    assert!(rt; matches!(event, Event::Gate { gate: 7 }));
+    Ok(())
+}
 
 #[test]
 fn numbers_above_their_limits(rt: HostRuntime) -> Result<(), Fail> {
@@ -452,8 +509,9 @@ fn refusals_of_nodes(rt: HostRuntime) -> Result<(), Fail> {
     check(&rt, rt.alloc(), &names, &OF_NODES)
 }
 
-const BEHIND_AN_EVENT: [(&str, u32, usize); 7] = [
+const BEHIND_AN_EVENT: [(&str, u32, usize); 8] = [
     ("store", 11, 0),
+    ("gate", 11, 0),
     ("table", 11, 0),
     ("client", 11, 0),
     ("draft", 12, 0),
@@ -486,8 +544,9 @@ fn each_event_ends_the_declarations(rt: HostRuntime) -> Result<(), Fail> {
         "start S1",
         "hold C1",
         "crash C1 0 0",
+        "start G1",
     ] {
-        let names = behind(alloc, &[STORE, TABLE, CLIENT, event])?;
+        let names = behind(alloc, &["gate G1", STORE, TABLE, CLIENT, event])?;
         assert_eq!(rt;
             judged(alloc, b"client C2 - -", &names)?,
             (11, 0),

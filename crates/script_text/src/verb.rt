@@ -13,6 +13,7 @@ pub(crate) enum EditVerb {
 #[derive(Debug, Clone, Copy, PartialEq, Eq)]
 pub(crate) enum Verb {
     Store,
+    Gate,
     Table,
     Client,
     Write,
@@ -45,6 +46,7 @@ pub(crate) fn verb_of(word: &str) -> Option<Verb>
 {
     match word {
         "store" => Some(Verb::Store),
+        "gate" => Some(Verb::Gate),
         "table" => Some(Verb::Table),
         "client" => Some(Verb::Client),
         "write" => Some(Verb::Write),
@@ -81,7 +83,7 @@ fn is_setting_verb(word: &str) -> bool
 {
     matches!(
         word,
-        "gate" | "draft" | "create" | "drop" | "subscribe" | "unsubscribe" | "writesync"
+        "draft" | "create" | "drop" | "subscribe" | "unsubscribe" | "writesync"
     )
 }
 

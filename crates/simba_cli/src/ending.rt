@@ -43,6 +43,7 @@ pub(crate) fn limit_text(limit: &str) -> &'static str {
         "3" => "the line has more than 34,603,008 bytes",
         "4" => "a table's number is above 64",
         "5" => "a client's number is above 64",
+        "6" => "a gateway's number is above 16",
         "7" => "a Store's number is above 16",
         "8" => "a table has more than 32 columns",
         "9" => "the script names more than 65,536 rows of one table",

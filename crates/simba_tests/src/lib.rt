@@ -14,6 +14,8 @@ mod fragment_cases;
 #[cfg(test)]
 mod fragments;
 #[cfg(test)]
+mod gateways;
+#[cfg(test)]
 mod limits;
 #[cfg(test)]
 mod pieces;

@@ -29,6 +29,32 @@ fn most_tables_and_clients(rt: HostRuntime) -> Result<(), Fail> {
     limited(&rt, rt.alloc(), clients, 7, "stop 7 130 5\n")
 }
 
+// So many gateways, with a client each.
+fn gated(alloc: Global, gates: u32) -> Result<Vec<u8>, Fail> {
+    let mut script = Vec::new(alloc);
+    for n in 1..=gates {
+        let line = format!(in alloc; "gate G{n}\nclient C{n} G{n} -\n")?;
+        script.extend_from_slice(line.as_bytes())?;
+    }
+    Ok(script)
+}
+
+#[test]
+fn most_gateways(rt: HostRuntime) -> Result<(), Fail> {
+    let mut script = gated(rt.alloc(), 16)?;
+    script.extend_from_slice(b"link C16 up\n")?;
+    limited(
+        &rt,
+        rt.alloc(),
+        script,
+        0,
+        "ok\nsent 0 C16 G16 registerDevice\n",
+    )?;
+    limited(&rt, rt.alloc(), gated(rt.alloc(), 17)?, 7, "stop 7 33 6\n")?;
+    let script = texts(rt.alloc(), &["client C1 G17 T1\n"])?;
+    limited(&rt, rt.alloc(), script, 3, "stop 3 1 8\n")
+}
+
 // A table of so many columns, and a write of as many numbers.
 fn wide(alloc: Global, columns: u32) -> Result<Vec<u8>, Fail> {
     let mut script = texts(alloc, &["store S1\ntable T1 notes eventual 64"])?;

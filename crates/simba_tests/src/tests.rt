@@ -44,7 +44,7 @@ const BAD_LINES: [(&str, &str); 6] = [
         "show C1 T1 00000000-0000-4000-8000-000000000001 x\n",
         "stop 3 4 3\n",
     ),
-    ("client C2 G1 T1\n", "stop 3 4 12\n"),
+    ("client C2 G1 T1\n", "stop 3 4 8\n"),
     ("store S1\n", "stop 3 4 9\n"),
 ];
 

@@ -1,5 +1,5 @@
 -- No event of a script finds a number or a version spent: a script has too few events for it.
-use Rattle.std.proofs.Common.{◌≡◌, ⊎_elim, ℕ, suc, ◌+◌, ◌*◌, ◌≤◌, List, [], ◌∷◌, ◌++◌, length, Option, Some, None, refl, ap, arith, subst, length-append}
+use Rattle.std.proofs.Common.{◌≡◌, ⊎_elim, ℕ, suc, ◌+◌, ◌*◌, ◌≤◌, List, [], ◌∷◌, ◌++◌, length, Option, Some, None, refl, ap, arith, subst, sym, ◌∙◌, length-append, append_assoc}
 use Rattle.std.proofs.lemmas.Nat.{mul-le}
 use Rattle.table_model.specs.declared.event.Event.{Event}
 use Rattle.table_model.specs.declared.event.Event.TheVariants as events
@@ -12,22 +12,35 @@ use Rattle.world_laws.proofs.Counts.{items_few, last_begun, seen_begun}
 use Rattle.world_laws.proofs.PairCounts.{pairs_few, begun_few}
 use Rattle.client_events.specs.Resolves.{IsLastWithin}
 use Rattle.journal_host.specs.Calls.{IsLast}
-use Rattle.wire_tables.specs.Runs.{wire_from}
-use Rattle.wire_tables.specs.Wire.{Wire, start, wire_step}
-use Rattle.wire_laws.specs.Runs.{AreBuilt}
-use Rattle.wire_laws.proofs.WireRuns.{whole_run}
+use Rattle.stab_base.specs.declared.node.Node.TheVariants as nodes
+use Rattle.wire_tables.specs.Wire.{Wire}
+use Rattle.wire_laws.specs.Runs.{AreBuilt, IsRunOf}
+use Rattle.wire_laws.proofs.WireRuns.{whole_run, built_front}
 use Rattle.wire_laws.proofs.Histories.{whole_is_shorter}
+use Rattle.gate_tables.specs.Gate.{Running}
+use Rattle.gated_tables.specs.Net.{Net, start, net_step}
+use Rattle.gated_tables.specs.Runs.{net_from}
+use Rattle.gated_laws.specs.Runs.{AreDeclaredFirst, IsRunOfWires}
+use Rattle.gated_laws.proofs.NetRuns.{run_of_wires}
+use Rattle.net_laws.specs.Few.{HasDrawnFew}
+use Rattle.net_laws.proofs.Few.{gates_few}
 use Rattle.node_steps.specs.Steps.{IsFull, SpendsNumber, SpendsWithin}
-use Rattle.wire_steps.specs.Steps.{Spends, may_begin}
+use Rattle.wire_steps.specs.Steps as wires
+use Rattle.net_steps.specs.Steps.{Spends, GateSpends, HasDrawnAll, may_begin}
 use Rattle.simba_top.specs.declared.run.TheConstants.{MOST_LINES}
 use Rattle.simba_top.specs.Stands.{plans_from}
-use Rattle.simba_top.proofs.Sounds.{wire_from-push, built-push}
+use Rattle.simba_top.proofs.Declared.{first_front}
+use Rattle.simba_top.proofs.Behind.{net_from-push}
 
 -- ---- in a world that events of whole messages led to, where no more plans were begun than this
 
-module _ (run : List Happening) (few : length run ≤ MOST_LINES) (plans : ℕ) (begun : plans ≤ MOST_LINES * MOST_LINES + MOST_LINES * 4) where
-  writes_few : begun_in run ≤ MOST_LINES * MOST_LINES
-  writes_few = let a = begun_few run in let b = mul-le (length run) (length run) MOST_LINES MOST_LINES few few in omega (arith, a, b)
+-- so many events has the run of whole messages that a run is
+abbrev most : ℕ
+most = 3 * MOST_LINES
+
+module _ (run : List Happening) (few : length run ≤ most) (plans : ℕ) (begun : plans ≤ most * most + most * 4) where
+  writes_few : begun_in run ≤ most * most
+  writes_few = let a = begun_few run in let b = mul-le (length run) (length run) most most few few in omega (arith, a, b)
 
   -- no client has made its last write, and so many plans weren't begun
   number_left : (c : ℕ) → SpendsNumber (suc (suc plans)) (world_from world.start run) c → ⊥
@@ -53,7 +66,7 @@ module _ (run : List Happening) (few : length run ≤ MOST_LINES) (plans : ℕ) 
   version_left : IsFull (world_from world.start run) → ⊥
   version_left full = let items = items_few run full.table full.hosted full.at in let is = full.full in omega (arith, items, is, few)
 
-  none_spent : (event : Event) → Spends plans (world_from world.start run) event → ⊥
+  none_spent : (event : Event) → wires.Spends plans (world_from world.start run) event → ⊥
   none_spent (events.Write client table row content) spent = number_left client spent
   none_spent (events.Edit client table row edit) spent = number_left client spent
   none_spent (events.Show client table row) spent = number_left client spent
@@ -69,46 +82,76 @@ module _ (run : List Happening) (few : length run ≤ MOST_LINES) (plans : ℕ) 
       ⊎_elim version_left (λ (number : (c : ℕ) × SpendsNumber (suc (suc plans)) (world_from world.start run) c). number_left number.0 number.1) spent
   none_spent other spent = spent
 
--- ---- so of the wire
+-- ---- so with gateways
 
--- how many rows a client has in conflict in a table
-pairs_at : (run : List Happening) → AreBuilt run → (c table : ℕ) → length (client_pairs (client_at (wire_from start run).world c) table) ≤ length run
-pairs_at run built c table =
-    let r = whole_run run built in
-    let few = pairs_few r.whole c table in
-    let same = ap (λ (w : World). length (client_pairs (client_at w c) table)) r.world in
-    let short = whole_is_shorter run r in
-    omega (arith, few, same, short)
+-- the run of whole messages has at most three events for each
+module _ (run : List Happening) (first : AreDeclaredFirst run) (built : AreBuilt run) where
+  abbrev wired : IsRunOfWires run
+  wired = run_of_wires run first built
 
-event_begins : (run : List Happening) → AreBuilt run → (event : Event) → may_begin (wire_from start run).world event ≤ length run + 3
-event_begins run built (events.ResolveAll c table by) = let few = pairs_at run built c table in omega (arith, few)
-event_begins run built (events.Deliver packet) = omega arith
-event_begins run built other = omega arith
+  abbrev whole : IsRunOf wired.whole
+  whole = whole_run wired.whole wired.built
+
+  whole_few : length whole.whole ≤ 3 * length run
+  whole_few = let a = whole_is_shorter wired.whole whole in let b = wired.few in omega (arith, a, b)
+
+  whole_world : world_from world.start whole.whole ≡ (net_from start run).wire.world
+  whole_world = sym (ap (λ (v : Wire). v.world) wired.wire ∙ whole.world)
+
+  -- how many rows a client has in conflict in a table
+  pairs_at : (c table : ℕ) → length (client_pairs (client_at (net_from start run).wire.world c) table) ≤ 3 * length run
+  pairs_at c table =
+      let few = pairs_few whole.whole c table in
+      let same = ap (λ (w : World). length (client_pairs (client_at w c) table)) whole_world in
+      let short = whole_few in
+      omega (arith, few, same, short)
+
+  event_begins : (event : Event) → may_begin (net_from start run) event ≤ 3 * length run + 3
+  event_begins (events.ResolveAll c table by) = let few = pairs_at c table in omega (arith, few)
+  event_begins (events.Deliver packet) = omega arith
+  event_begins other = omega arith
 
 -- with what was begun before
-all_begin : (before more : List Happening) → AreBuilt before → AreBuilt more → plans_from (wire_from start before) more ≤ length more * (length before + (length more + 3))
-all_begin before [] built rest = omega arith
-all_begin before (h ∷ more) built rest =
-    let first = event_begins before built h.event in
-    let later = subst (λ (v : Wire). plans_from v more ≤ length more * (length (before ++ h ∷ []) + (length more + 3))) (wire_from-push h start before)
-    (all_begin (before ++ h ∷ []) more (built-push before h built rest.0) rest.1) in
+all_begin : (before more : List Happening) → AreDeclaredFirst (before ++ more) → AreBuilt (before ++ more)
+    → plans_from (net_from start before) more ≤ length more * (3 * (length before + length more) + 3)
+all_begin before [] first built = omega arith
+all_begin before (h ∷ more) first built =
+    let here = event_begins before (first_front before (h ∷ more) first) (built_front before (h ∷ more) built) h.event in
+    let same : before ++ h ∷ more ≡ (before ++ h ∷ []) ++ more = sym (append_assoc before (h ∷ []) more) in
+    let rest = all_begin (before ++ h ∷ []) more (subst AreDeclaredFirst same first) (subst AreBuilt same built) in
+    let later = subst (λ (n : Net). plans_from n more ≤ length more * (3 * (length (before ++ h ∷ []) + length more) + 3)) (net_from-push h start before) rest in
     let longer = length-append before (h ∷ []) in
-    bound (length before) (length more) _ _ first
-    (subst (λ (n : ℕ). plans_from (wire_step (wire_from start before) h.event h.lucks).wire more ≤ length more * (n + (length more + 3))) longer later)
+    bound (length before) (length more) _ _ here
+    (subst (λ (n : ℕ). plans_from (net_step (net_from start before) h.event h.lucks).net more ≤ length more * (3 * (n + length more) + 3)) longer later)
   where
-    bound : (b m x y : ℕ) → x ≤ b + 3 → y ≤ m * (b + 1 + (m + 3)) → x + y ≤ suc m * (b + (suc m + 3))
+    bound : (b m x y : ℕ) → x ≤ 3 * b + 3 → y ≤ m * (3 * (b + 1 + m) + 3) → x + y ≤ suc m * (3 * (b + suc m) + 3)
     bound b m x y p q = omega (arith, p, q)
 
-plans_few : (run : List Happening) → AreBuilt run → length run ≤ MOST_LINES → plans_from start run ≤ MOST_LINES * MOST_LINES + MOST_LINES * 4
-plans_few run built few =
-    let begun = all_begin [] run tt built in
-    let more : length run + 3 ≤ MOST_LINES + 3 = omega (arith, few) in
-    let most = mul-le (length run) (length run + 3) MOST_LINES (MOST_LINES + 3) few more in
-    omega (arith, begun, most)
+module _ (run : List Happening) (first : AreDeclaredFirst run) (built : AreBuilt run) (few : length run ≤ MOST_LINES) where
+  plans_few : plans_from start run ≤ most * most + most * 4
+  plans_few =
+      let begun = all_begin [] run first built in
+      let more : 3 * length run + 3 ≤ most + 3 = omega (arith, few) in
+      let times = mul-le (length run) (3 * length run + 3) MOST_LINES (most + 3) few more in
+      omega (arith, begun, times)
 
-pub not_spent : (run : List Happening) → AreBuilt run → length run ≤ MOST_LINES → (event : Event) → Spends (plans_from start run) (wire_from start run).world event → ⊥
-not_spent run built few event spent =
-    let r = whole_run run built in
-    let short = whole_is_shorter run r in
-    none_spent r.whole (omega (arith, short, few)) (plans_from start run) (plans_few run built few) event
-    (subst (λ (w : World). Spends (plans_from start run) w event) r.world spent)
+  wire_left : (event : Event) → wires.Spends (plans_from start run) (net_from start run).wire.world event → ⊥
+  wire_left event spent =
+      none_spent (whole run first built).whole (let short = whole_few run first built in omega (arith, short, few)) (plans_from start run) plans_few event
+      (subst (λ (w : World). wires.Spends (plans_from start run) w event) (sym (whole_world run first built)) spent)
+
+  -- no gateway has started so often, or drawn so many tokens since
+  gates_left : GateSpends (net_from start run) → ⊥
+  gates_left s =
+      let it = gates_few run s.number s.gateway s.at in
+      let starts = it.starts in
+      ⊎_elim (λ all. omega (arith, all, starts, few)) (λ all. drawn_left s.gateway.running it.drawn all) s.spent
+    where
+      drawn_left : (o : Option Running) → HasDrawnFew (length run) o → HasDrawnAll o → ⊥
+      drawn_left None drawn all = all
+      drawn_left (Some running) drawn all = omega (arith, all, drawn, few)
+
+  pub not_spent : (event : Event) → Spends (plans_from start run) (net_from start run) event → ⊥
+  not_spent (events.Deliver packet) spent = ⊎_elim (wire_left (events.Deliver packet)) gates_left spent
+  not_spent (events.Start (nodes.Gate number)) spent = gates_left spent
+  not_spent other spent = wire_left other spent

@@ -24,10 +24,10 @@ use Rattle.simba_top.specs.Outputs.{text_so_far}
 use Rattle.simba_top.specs.Script.{IsFront, IsWhole}
 use Rattle.simba_top.specs.Stands.{Goes, GoesOn, IsCause, EndedBy, Stopped, IsDone, IsFinished, Leads}
 use Rattle.simba_top.proofs.Puts.{added_then}
-use Rattle.wire_tables.specs.Wire.{start}
-use Rattle.wire_tables.specs.Runs.{wire_from}
-use Rattle.wire_steps.specs.declared.world.World.{World}
-use Rattle.wire_steps.specs.Steps.{IsUndone}
+use Rattle.gated_tables.specs.Net.{start}
+use Rattle.gated_tables.specs.Runs.{net_from}
+use Rattle.net_steps.specs.declared.world.World.{World}
+use Rattle.net_steps.specs.Steps.{IsUndone}
 use Rattle.simba_top.proofs.Sounds.{is_run, run_still}
 
 pub same_count : {D : Type 0} (old new : Run D) → new ≡ record old { reader = new.reader } → new.count ≡ old.count
@@ -102,9 +102,9 @@ report_ended P (Limit limit) input count left held other e = (e.0, e.1, report_s
 report_ended P Sent input count left held other e = (e.0, e.1, e.2, report_still (GoesOver P e.1) e.0 held e.3)
 
 -- an event isn't carried out
-pub still_tells : {D : Type 0} (state : D → DiskState) (script : List Event) (told : List TextLine) (world new : World D) (is_out out : ℕ → Bool) (before now : Option (List ℕ))
-    → (leads : Leads state script told world is_out) → IsUndone state (wire_from start leads.run) out world new → Appends before now (transcript_text told) → Tells Transcript (Led state new) script before now
-still_tells state script told world new is_out out before now leads u was = (told, run_still state script told world is_out leads new out u, was)
+pub still_tells : {D : Type 0} (state : D → DiskState) (script : List Event) (told : List TextLine) (names : Names) (world new : World D) (is_out out : ℕ → Bool) (before now : Option (List ℕ))
+    → (leads : Leads state script told names world is_out) → IsUndone state (net_from start leads.run) out world new → Appends before now (transcript_text told) → Tells Transcript (Led state new) script before now
+still_tells state script told names world new is_out out before now leads u was = (told, run_still state script told names world is_out leads new out u, was)
 
 world_same : {D : Type 0} (old new : Run D) → new ≡ record old { reader = new.reader } → new.world ≡ old.world
 world_same {D} old new same = ap (λ (run : Run D). run.world) same
@@ -115,7 +115,7 @@ told_same {D} old new same = ap (λ (run : Run D). run.told) same
 module _ {D : Type 0} (state : D → DiskState) (input : List ℕ) (run : Run D) (is_out : ℕ → Bool) (left before now : Option (List ℕ))
     (goes : Goes state input run is_out left before now) where
   pub tells : Tells Transcript (Led state run.world) goes.0 before now
-  tells = (goes.1, is_run state goes.0 goes.1 run.world is_out goes.2.world, goes.3)
+  tells = (goes.1, is_run state goes.0 goes.1 run.names run.world is_out goes.2.world, goes.3)
 
   -- a line more was read
   pub tells_same : (new : Run D) → new ≡ record run { reader = new.reader } → Tells Transcript (Led state new.world) goes.0 before now
@@ -127,7 +127,7 @@ module _ {D : Type 0} (state : D → DiskState) (input : List ℕ) (run : Run D)
     goes.0,
     goes.1,
     whole,
-    subst (λ (w : World D). Leads state goes.0 goes.1 w is_out) (sym (world_same run new same)) goes.2.world,
+    subst (λ (r : Run D). Leads state goes.0 goes.1 r.names r.world is_out) (sym same) goes.2.world,
     told_same run new same ∙ goes.2.told_is,
   )
 
@@ -145,7 +145,7 @@ module _ {D : Type 0} (state : D → DiskState) (input : List ℕ) (told : List 
   pub put_failed : AppendsFront mid now (flat_map (λ (text : List ℕ). text) texts) → (text : List ℕ) × IsTextOf Transcript (Led state run.world) input text × AppendsFront before now text
   put_failed put = (
     transcript_text goes.1,
-    inl (goes.0, goes.1, is_run state goes.0 goes.1 run.world is_out goes.2.world, inl (run.count, run.names, goes.2.rest, goes.2.front, refl)),
+    inl (goes.0, goes.1, is_run state goes.0 goes.1 run.names run.world is_out goes.2.world, inl (run.count, run.names, goes.2.rest, goes.2.front, refl)),
     subst (λ (text : List ℕ). AppendsFront before now text) (sym goes.3)
         (added_then before mid now (transcript_text told) (flat_map (λ (text : List ℕ). text) texts) was put),
   )

@@ -7,6 +7,8 @@ pub mod Complete
 pub mod OneEnd
 pub mod OneCut
 pub mod Puts
+pub mod Declared
+pub mod Behind
 pub mod Sounds
 pub mod Underway
 pub mod Counts

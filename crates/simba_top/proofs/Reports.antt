@@ -11,11 +11,11 @@ use Rattle.world_tables.specs.Turns.{Happening}
 use Rattle.world_tables.specs.World.{World, Hosted, schema_at, hosted_at}
 use Rattle.fair_laws.specs.Worlds.{IsFair}
 use Rattle.fair_laws.proofs.Worlds.{reached_fair}
-use Rattle.wire_tables.specs.Wire.{start}
-use Rattle.wire_tables.specs.Runs.{wire_from}
+use Rattle.gated_tables.specs.Net.{start}
+use Rattle.gated_tables.specs.Runs.{net_from}
+use Rattle.gated_laws.specs.Runs.{AreDeclaredFirst}
+use Rattle.gated_laws.proofs.NetLaws.{nets_told}
 use Rattle.wire_laws.specs.Runs.{AreBuilt}
-use Rattle.wire_laws.proofs.Carried.{reached_world}
-use Rattle.wire_laws.proofs.Histories.{wire_history_told}
 use Rattle.run_report.specs.declared.table.TableReport.{TableReport}
 use Rattle.run_report.specs.Text.{report_text}
 use Rattle.node_steps.specs.Holds as nodes
@@ -27,6 +27,7 @@ use Rattle.simba_top.specs.Ends.{IsRun}
 use Rattle.simba_top.specs.Faults.{Led, AnyRun, told_history}
 use Rattle.simba_top.specs.Outputs.{table_told, tables_told, history_in, report_of, lines_counted}
 use Rattle.simba_top.specs.Stands.{IsFinished, IsDone, Stopped}
+use Rattle.simba_top.proofs.Behind.{nodes_reached}
 use Rattle.simba_top.proofs.Endings.{run_map}
 use Rattle.simba_top.proofs.Sounds.{is_run}
 
@@ -54,19 +55,19 @@ module _ (w : World) (f g : ℕ → List Entry) (same : (table : ℕ) (schema : 
       ∙ ap (λ list. option_to_list (table_told table (g table) (schema_at w table)) ++ list) (told_alike tables)
 
 -- those of the world behind a run are the ones that its lines tell
-module _ (run : List Happening) (built : AreBuilt run) where
+module _ (run : List Happening) (first : AreDeclaredFirst run) (built : AreBuilt run) where
   abbrev w : World
-  w = (wire_from start run).world
+  w = (net_from start run).wire.world
 
   fair : IsFair w
-  fair = reached_fair w (reached_world (wire_from start run) run built refl)
+  fair = reached_fair w (nodes_reached run first built)
 
   history_alike : (table : ℕ) (schema : Schema) → schema_at w table ≡ Some schema → history_in (hosted_at w table) ≡ told_history run table
   history_alike table schema at = go (hosted_at w table) refl
     where
       go : (o : Option Hosted) → hosted_at w table ≡ o → history_in o ≡ told_history run table
       go None none = absurd (true≢false (sym (ap (λ (s : Option Schema). is_some s) at) ∙ (fair.both table ∙ ap (λ (h : Option Hosted). is_some h) none)))
-      go (Some hosted) there = wire_history_told run built table hosted there
+      go (Some hosted) there = nets_told run first built table hosted there
 
   pub report_alike : tables_told w (λ table. history_in (hosted_at w table)) ≡ tables_told w (told_history run)
   report_alike = told_alike w (λ table. history_in (hosted_at w table)) (told_history run) history_alike (range_with_len 1 64)
@@ -79,16 +80,16 @@ module _ {D : Type 0} (state : D → DiskState) (input : List ℕ) (run : Run D)
   lines = finished.1
 
   abbrev the_run : IsRun P finished.0 lines
-  the_run = run_map (Led state run.world) P kept finished.0 lines (is_run state finished.0 lines run.world is_out finished.3)
+  the_run = run_map (Led state run.world) P kept finished.0 lines (is_run state finished.0 lines run.names run.world is_out finished.3)
 
   -- the text is that of its report
   module _ (text : List ℕ)
-      (is : (w : World) → nodes.Holds state w run.world.nodes → text ≡ report_text (record { lines = run.told; tables = tables_told w (λ table. history_in (hosted_at w table)) })) where
+      (is : (w : World) → nodes.Holds state w run.world.wire.nodes → text ≡ report_text (record { lines = run.told; tables = tables_told w (λ table. history_in (hosted_at w table)) })) where
     text_is : text ≡ report_text (report_of the_run.run lines)
     text_is =
-        is (wire_from start finished.3.run).world finished.3.held.nodes
-        ∙ ap (λ (n : ℕ). report_text (record { lines = n; tables = tables_told (wire_from start finished.3.run).world (λ table. history_in (hosted_at (wire_from start finished.3.run).world table)) })) finished.4
-        ∙ ap (λ (ts : List TableReport). report_text (record { lines = lines_counted lines; tables = ts })) (report_alike finished.3.run finished.3.built)
+        is (net_from start finished.3.run).wire.world finished.3.behind.held.wire.nodes
+        ∙ ap (λ (n : ℕ). report_text (record { lines = n; tables = tables_told (net_from start finished.3.run).wire.world (λ table. history_in (hosted_at (net_from start finished.3.run).wire.world table)) })) finished.4
+        ∙ ap (λ (ts : List TableReport). report_text (record { lines = lines_counted lines; tables = ts })) (report_alike finished.3.run finished.3.behind.first finished.3.behind.built)
 
     pub report_done : (before after : Option (List ℕ)) → Appends before after text → IsDone Report P input before after
     report_done before after put = (finished.0, finished.2, (lines, the_run, subst (λ (t : List ℕ). Appends before after t) text_is put))

@@ -200,7 +200,7 @@ module _ (o : Output) (P : List Happening → Type 0) (left left' held held' : O
 pub nothing_yet : (o : Output) (left held : Option (List ℕ)) → IfSome left (λ input. (script : List Event) × (count : ℕ) × (names : Names) × (rest : List ℕ)
     × IsFront input script count names rest × Tells o AnyRun script held held)
 nothing_yet o None held = tt
-nothing_yet o (Some input) held = ([], 0, no_names, input, front_start input, ([], run_with AnyRun [] [] [] refl refl tt tt tt, added o))
+nothing_yet o (Some input) held = ([], 0, no_names, input, front_start input, ([], run_with AnyRun [] [] [] refl refl tt tt tt tt, added o))
   where
     added : (o : Output) → Appends held held (text_so_far o [])
     added Transcript = Appends-nil held

@@ -11,8 +11,9 @@ use Rattle.std.proofs.lemmas.List.Folds.{flat_map-map}
 use Rattle.table_model.specs.declared.event.Event.{Event}
 use Rattle.table_model.specs.declared.line.TextLine.{TextLine}
 use Rattle.disk_trait.specs.Calls.{DiskState}
-use Rattle.wire_tables.specs.Wire.{start}
-use Rattle.wire_tables.specs.Runs.{wire_from}
+use Rattle.world_tables.specs.Sound.{is_declaration}
+use Rattle.gated_tables.specs.Net.{start}
+use Rattle.gated_tables.specs.Runs.{net_from}
 use Rattle.stab_io.specs.Lines.{Next, Line, End, LineTooLong, InputTooLong, next_of}
 use Rattle.stab_io.specs.Reading.{Reading, ahead, IsNextLine, ComesNext, CountsAll, IsFirstPast, IsUnfinished}
 use Rattle.stab_io.specs.declared.line_fault.LineFault.{LineFault}
@@ -31,8 +32,8 @@ use Rattle.fair_laws.specs.Reached.{IsBuilt}
 use Rattle.node_steps.specs.declared.fault.WorldFault.{WorldFault}
 use Rattle.node_steps.specs.declared.fault.WorldFault.TheVariants as world_faults
 use Rattle.node_steps.proofs.Counted.{no_faults}
-use Rattle.wire_steps.specs.Holds.{Holds}
-use Rattle.wire_steps.specs.Steps.{IsStep, Spends, all_faults}
+use Rattle.net_steps.specs.Holds.{Holds}
+use Rattle.net_steps.specs.Steps.{IsStep, Spends, all_faults}
 use Rattle.simba_top.specs.Faults.{Matches}
 use Rattle.simba_top.specs.RowNames.{HasRows, FewRows, IsRowCause}
 use Rattle.simba_top.specs.declared.row_names.RowNames.{RowNames}
@@ -44,8 +45,9 @@ use Rattle.line_widths.specs.Widths.{HasWidths}
 use Rattle.simba_top.specs.Outputs.{lines_counted}
 use Rattle.simba_top.specs.Ends.{IsFull, IsLimitAt, IsCutOff, IsNext}
 use Rattle.simba_top.specs.Stands.{IsReady, plans_from, IsUnderway, Leads, Stands, HasLine, GoesOn, IsCause}
-use Rattle.wire_steps.specs.declared.world.World.{World}
+use Rattle.net_steps.specs.declared.world.World.{World}
 use Rattle.simba_top.proofs.Fronts.{front_start, front_passed, front_event}
+use Rattle.simba_top.proofs.Behind.{behind_none}
 use Rattle.simba_top.proofs.Sounds.{leads_on}
 use Rattle.simba_top.proofs.Counts.{not_spent}
 
@@ -63,18 +65,16 @@ known (Some x) f = f x refl
 
 -- a world of which nothing was asked has no disks
 counted_new : {D : Type 0} (state : D → DiskState) (world : World D) (is_out : ℕ → Bool) → Holds state start world → ((k : ℕ) → is_out k ≡ false) → Matches 0 (all_faults state world)
-counted_new state world is_out held none = let z = no_faults state world.nodes held.nodes in record { few = omega arith; one = λ up. absurd (omega (arith, up, z)) }
+counted_new state world is_out held none = let z = no_faults state world.wire.nodes held.wire.nodes in record { few = omega arith; one = λ up. absurd (omega (arith, up, z)) }
 
 -- the run at its start
-leads_new : {D : Type 0} (state : D → DiskState) (world : World D) (is_out : ℕ → Bool) → Holds state start world → ((k : ℕ) → is_out k ≡ false) → Leads state [] [] world is_out
-leads_new state world is_out held none =
+leads_new : {D : Type 0} (state : D → DiskState) (names : Names) (world : World D) (is_out : ℕ → Bool) → Holds state start world → ((k : ℕ) → is_out k ≡ false) → Leads state [] [] names world is_out
+leads_new state names world is_out held none =
     record {
       run = [];
       events = refl;
       lines_are = refl;
-      built = tt;
-      held = held;
-      out = record { tables = λ table k some most few. none _; clients = λ c k some few. none _ };
+      behind = behind_none state names world is_out held none;
       counted = counted_new state world is_out held none;
       widths = tt;
     }
@@ -88,7 +88,7 @@ stands_new state input run is_out reader names count told rows world none = reco
   front = rw (names, count) (front_start input);
   here = ap (λ (r : Reading). ahead r (Some input)) reader;
   used = let e = ap (λ (r : Reading). r.used) reader in omega (arith, e);
-  world = leads_new state run.world is_out world none;
+  world = leads_new state run.names run.world is_out world none;
   rows = rows;
   told_is = told;
 }
@@ -259,15 +259,15 @@ more_told told lines old new is next = let longer = length-append told lines in 
 -- so does the fault of an event that isn't carried out, of a run that has begun so many plans
 abbrev pub IsSpent : {D : Type 0} (state : D → DiskState) (is_out : ℕ → Bool) (run : Run D) → IsUnderway state is_out run → Event → WorldFault → Type 0
 IsSpent state is_out run here event fault = (code count : ℕ) → fault ≡ world_faults.Limit code count
-    → (code ≡ 10) ⊎ ((code ≡ 11) × Spends (plans_from start here.happenings) (wire_from start here.happenings).world event)
+    → (code ≡ 10) ⊎ ((code ≡ 11) × Spends (plans_from start here.happenings) (net_from start here.happenings) event)
 
 limits_as : (code : ℕ) → code ≡ 10 → of_world (world_faults.Limit code 0) ≡ stops.Sent
 limits_as code is = ap (λ (n : ℕ). of_world (world_faults.Limit n 0)) is
 
 -- no number is spent yet
 module _ {D : Type 0} (state : D → DiskState) (is_out : ℕ → Bool) (run : Run D) (here : IsUnderway state is_out run) (few : run.count < MOST_LINES) (event : Event) where
-  not_past : Spends (plans_from start here.happenings) (wire_from start here.happenings).world event → ⊥
-  not_past spent = not_spent here.happenings here.built (let least = here.few in omega (arith, least, few)) event spent
+  not_past : Spends (plans_from start here.happenings) (net_from start here.happenings) event → ⊥
+  not_past spent = not_spent here.happenings here.behind.first here.behind.built (let least = here.few in omega (arith, least, few)) event spent
 
   -- so a limit is of the bytes that were sent
   pub is_sent : (code count : ℕ) → IsSpent state is_out run here event (world_faults.Limit code count) → code ≡ 10
@@ -345,10 +345,10 @@ module _ {D : Type 0} (state : D → DiskState) (input : List ℕ) (script : Lis
   pub carries_out : (images : D → ℕ → List ℕ → Type 0) (event : Event) (names : Names) (rows : RowNames) (world : World D) (out : ℕ → Bool) (lines : List TextLine) (texts : List (List ℕ)) (count : ℕ)
       → Spells run.names line event → names ≡ with_event run.names event
       → HasRows (script ++ event ∷ []) rows → FewRows (script ++ event ∷ [])
-      → IsBuilt event → IsStep state images (wire_from start has.world.run) event lines out run.world world
+      → IsBuilt event → (is_declaration event ≡ true → run.names.started ≡ false) → IsStep state images (net_from start has.world.run) event lines out run.world world
       → texts ≡ map (λ (line : TextLine). text_of line ++ 10 ∷ []) lines → AllByRecursion HasWidths lines → count ≡ min (run.told + length lines) (2 ^ 64 - 1)
       → GoesOn state input told (record run { names = names; rows = rows; world = world; told = count; count = run.count + 1 }) out left texts
-  carries_out images event names rows world out lines texts count spells named has_rows few_rows built step text widths counted = (
+  carries_out images event names rows world out lines texts count spells named has_rows few_rows built early step text widths counted = (
     script ++ event ∷ [],
     told ++ lines,
     record {
@@ -356,7 +356,7 @@ module _ {D : Type 0} (state : D → DiskState) (input : List ℕ) (script : Lis
       front = rw named (front_event input script run.count run.names has.before line has.rest has.front has.next few event spells few_rows);
       here = has.here;
       used = has.used;
-      world = leads_on state script told run.world is_out has.world images event lines world out built widths step;
+      world = rw named (leads_on state script told run.names run.world is_out has.world images event lines world out built early widths step);
       rows = has_rows;
       told_is = more_told told lines run.told count has.told_is counted;
     },

@@ -8,8 +8,8 @@ use Rattle.table_model.specs.declared.line.TextLine.{TextLine}
 use Rattle.step_tables.specs.Lines.{line_of}
 use Rattle.world_tables.specs.World.{client_at, is_resolving}
 use Rattle.world_tables.specs.Turns.{Happening, transcript_of}
-use Rattle.wire_tables.specs.Wire.{start}
-use Rattle.wire_tables.specs.Runs.{wire_from, wire_turns}
+use Rattle.gated_tables.specs.Net.{start}
+use Rattle.gated_tables.specs.Runs.{net_from, net_turns}
 use Rattle.world_tables.specs.Sound.{IsSound}
 use Rattle.world_tables.specs.Quiet.{AreListed}
 use Rattle.asked_laws.specs.Asked.{AreAsked}
@@ -34,22 +34,22 @@ use Rattle.simba_top.specs.Script.{next_in, IsFront, IsWhole}
 -- it, and then the client is up
 abbrev pub AreToldPhases : List Happening → Type 0
 AreToldPhases run = (front more : List Happening) → run ≡ front ++ more → (client table : ℕ)
-    → (is_resolving (wire_from start front).world client table ≡ has_phase (wire_turns front) client table)
-    × (has_phase (wire_turns front) client table ≡ true
-    → is_away (client_at (wire_from start front).world client) ≡ false)
+    → (is_resolving (net_from start front).wire.world client table ≡ has_phase (net_turns front) client table)
+    × (has_phase (net_turns front) client table ≡ true
+    → is_away (client_at (net_from start front).wire.world client) ≡ false)
 
--- A run of a script that has P, whose packets are parts of messages: its events, each with the lucks of its device
--- calls, and what the lines of it are. Each of these has the text of one line alone. They are sound, where chunks are
--- listed at a quiet Store they are those that its rows name, a row is told as resolved only where its client was asked
--- to, and the phases in which clients resolve are those that the lines tell
+-- A run of a script that has P, of the world with gateways, where large messages go as their parts: its events, each
+-- with the lucks of its device calls, and what the lines of it are. Each of these has the text of one line alone. They
+-- are sound, where chunks are listed at a quiet Store they are those that its rows name, a row is told as resolved only
+-- where its client was asked to, and the phases in which clients resolve are those that the lines tell
 pub record IsRun (P : List Happening → Type 0) (script : List Event) (lines : List TextLine) : Type 0 where
   pub run : List Happening
   pub events : map (λ (h : Happening). h.event) run ≡ script
-  pub lines_are : map line_of lines ≡ transcript_of (wire_turns run)
+  pub lines_are : map line_of lines ≡ transcript_of (net_turns run)
   pub texts : AllByRecursion HasText lines
-  pub sound : IsSound (wire_turns run)
-  pub listed : AreListed (wire_turns run)
-  pub asked : AreAsked (wire_turns run)
+  pub sound : IsSound (net_turns run)
+  pub listed : AreListed (net_turns run)
+  pub asked : AreAsked (net_turns run)
   pub phases : AreToldPhases run
   pub kept : P run
 

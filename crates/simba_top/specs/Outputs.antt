@@ -6,8 +6,8 @@ use Rattle.table_model.specs.declared.line.TextLine.{TextLine}
 use Rattle.table_model.specs.declared.entry.Entry.{Entry}
 use Rattle.world_tables.specs.Turns.{Happening}
 use Rattle.world_tables.specs.World.{World, Hosted, schema_at}
-use Rattle.wire_tables.specs.Wire.{start}
-use Rattle.wire_tables.specs.Runs.{wire_from}
+use Rattle.gated_tables.specs.Net.{start}
+use Rattle.gated_tables.specs.Runs.{net_from}
 use Rattle.transcript_text.specs.Text.{transcript_text}
 use Rattle.command_words.specs.declared.command.Command.{Command}
 use Rattle.command_words.specs.declared.command.Command.TheVariants as commands
@@ -53,7 +53,7 @@ lines_counted lines = min (length lines) (2 ^ 64 - 1)
 abbrev pub report_of : List Happening → List TextLine → Report
 report_of run lines = record {
   lines = lines_counted lines;
-  tables = tables_told (wire_from start run).world (told_history run);
+  tables = tables_told (net_from start run).wire.world (told_history run);
 }
 
 -- ---- what is written

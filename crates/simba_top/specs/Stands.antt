@@ -1,5 +1,6 @@
 -- Where a run stands over an input, and how it ends there.
-use Rattle.std.specs.Prelude.{◌≡◌, ℕ, ◌+◌, ◌<◌, ◌≤◌, Bool, List, [], ◌∷◌, ◌++◌, length, map, Option, Some, None, IfSome}
+use Rattle.std.specs.Prelude.{◌≡◌, ℕ, ◌+◌, ◌<◌, ◌≤◌, Bool, false, List, [], ◌∷◌, ◌++◌, length, map}
+use Rattle.std.specs.Prelude.{Option, Some, None, IfSome}
 use Rattle.std.specs.List.{flat_map, AllByRecursion}
 use Rattle.std.specs.Io.KnownBytes.{Appends}
 use Rattle.disk_trait.specs.Calls.{DiskState}
@@ -7,10 +8,11 @@ use Rattle.table_model.specs.declared.event.Event.{Event}
 use Rattle.table_model.specs.declared.line.TextLine.{TextLine}
 use Rattle.step_tables.specs.Lines.{line_of}
 use Rattle.world_tables.specs.Turns.{Happening, transcript_of}
-use Rattle.wire_tables.specs.Wire.{Wire, start, wire_step}
-use Rattle.wire_tables.specs.Runs.{wire_from, wire_turns}
-use Rattle.wire_tables.specs.Faults.{wire_faults}
 use Rattle.wire_laws.specs.Runs.{AreBuilt}
+use Rattle.gated_tables.specs.Net.{Net, start, net_step}
+use Rattle.gated_tables.specs.Runs.{net_from, net_turns}
+use Rattle.gated_tables.specs.Faults.{net_faults}
+use Rattle.gated_laws.specs.Runs.{AreDeclaredFirst, AreDeclarations}
 use Rattle.stab_io.specs.Faults.{Rose, AppendsFront}
 use Rattle.stab_io.specs.Lines.{Line}
 use Rattle.stab_io.specs.Reading.{ahead}
@@ -23,9 +25,9 @@ use Rattle.simba_top.specs.declared.stop.Stop.{Stop}
 use Rattle.simba_top.specs.declared.stop.Stop.TheVariants.{Read, Put, Depot, Memory, BadLine, Limit, Sent}
 use Rattle.simba_top.specs.declared.turn.Run.{Run}
 use Rattle.node_steps.specs.Holds.{AreOut}
-use Rattle.wire_steps.specs.declared.world.World.{World}
-use Rattle.wire_steps.specs.Holds.{Holds}
-use Rattle.wire_steps.specs.Steps.{all_faults, HavePlansBelow, may_begin}
+use Rattle.net_steps.specs.declared.world.World.{World}
+use Rattle.net_steps.specs.Holds.{Holds}
+use Rattle.net_steps.specs.Steps.{all_faults, HavePlansBelow, may_begin}
 use Rattle.simba_top.specs.Faults.{Matches, AnyRun, GoesOver}
 use Rattle.simba_top.specs.RowNames.{HasRows}
 use Rattle.simba_top.specs.Script.{next_in, IsFront, IsWhole}
@@ -40,30 +42,36 @@ pub record IsReady {D : Type 0} (run : Run D) : Type 0 where
   pub few : run.count ≤ MOST_LINES
 
 -- how many plans the events of a run may begin
-abbrev pub plans_from : Wire → List Happening → ℕ
-plans_from v [] = 0
-plans_from v (h ∷ more) = may_begin v.world h.event + plans_from (wire_step v h.event h.lucks).wire more
+abbrev pub plans_from : Net → List Happening → ℕ
+plans_from n [] = 0
+plans_from n (h ∷ more) = may_begin n h.event + plans_from (net_step n h.event h.lucks).net more
 
--- Events led to the world of a run, with some lucks, no more of them than there were lines; the disks that are out are
--- its own; and no client has begun more plans than the events may
+-- These events led to this world, with their lucks, and no declaration stands behind another event; the disks that are
+-- out are its own. Where the names of the script allow a declaration yet, there were declarations alone.
+pub record IsBehind {D : Type 0} (state : D → DiskState) (happenings : List Happening) (names : Names)
+    (world : World D) (is_out : ℕ → Bool) : Type 0 where
+  pub first : AreDeclaredFirst happenings
+  pub built : AreBuilt happenings
+  pub early : names.started ≡ false → AreDeclarations happenings
+  pub held : Holds state (net_from start happenings) world
+  pub out : AreOut is_out (net_from start happenings).wire.world
+
+-- Events led to the world of a run, no more of them than there were lines; and no client has begun more plans than the
+-- events may
 pub record IsUnderway {D : Type 0} (state : D → DiskState) (is_out : ℕ → Bool) (run : Run D) : Type 0 where
   pub happenings : List Happening
-  pub built : AreBuilt happenings
+  pub behind : IsBehind state happenings run.names run.world is_out
   pub few : length happenings ≤ run.count
-  pub held : Holds state (wire_from start happenings) run.world
-  pub out : AreOut is_out (wire_from start happenings).world
   pub plans : HavePlansBelow state (plans_from start happenings) run.world
 
--- the events of a script led to this world, with some lucks, and wrote these lines; the disks that are out are its own
-pub record Leads {D : Type 0} (state : D → DiskState) (script : List Event) (told : List TextLine) (world : World D)
-    (is_out : ℕ → Bool) : Type 0 where
+-- the events of a script, behind which stand these names, led to this world and wrote these lines
+pub record Leads {D : Type 0} (state : D → DiskState) (script : List Event) (told : List TextLine) (names : Names)
+    (world : World D) (is_out : ℕ → Bool) : Type 0 where
   pub run : List Happening
   pub events : map (λ (h : Happening). h.event) run ≡ script
-  pub lines_are : map line_of told ≡ transcript_of (wire_turns run)
-  pub built : AreBuilt run
-  pub held : Holds state (wire_from start run) world
-  pub out : AreOut is_out (wire_from start run).world
-  pub counted : Matches (wire_faults start run) (all_faults state world)
+  pub lines_are : map line_of told ≡ transcript_of (net_turns run)
+  pub behind : IsBehind state run names world is_out
+  pub counted : Matches (net_faults start run) (all_faults state world)
   pub widths : AllByRecursion HasWidths told
 
 -- the lines so far are the first of the input and spell the script, and the bytes ahead are the rest
@@ -73,7 +81,7 @@ pub record Stands {D : Type 0} (state : D → DiskState) (input : List ℕ) (scr
   pub front : IsFront input script run.count run.names rest
   pub here : ahead run.reader left ≡ Some rest
   pub used : run.reader.used + length rest ≡ length input
-  pub world : Leads state script told run.world is_out
+  pub world : Leads state script told run.names run.world is_out
   pub rows : HasRows script run.rows
   pub told_is : run.told ≡ lines_counted told
 
@@ -86,7 +94,7 @@ pub record HasLine {D : Type 0} (state : D → DiskState) (input : List ℕ) (sc
   pub next : next_in (length input) before ≡ Line line rest
   pub here : ahead run.reader left ≡ Some rest
   pub used : run.reader.used + length rest ≡ length input
-  pub world : Leads state script told run.world is_out
+  pub world : Leads state script told run.names run.world is_out
   pub rows : HasRows script run.rows
   pub told_is : run.told ≡ lines_counted told
 
@@ -147,7 +155,7 @@ IsDone output P input before after =
 -- the input was read to its end, and its script led to the world of this run
 abbrev pub IsFinished : {D : Type 0} → (D → DiskState) → List ℕ → Run D → (ℕ → Bool) → Type 0
 IsFinished state input run is_out = (script : List Event) × (told : List TextLine) × IsWhole input script
-    × Leads state script told run.world is_out × (run.told ≡ lines_counted told)
+    × Leads state script told run.names run.world is_out × (run.told ≡ lines_counted told)
 
 -- a count of faults of the source, of the sink, or of the depot rises where this stop says so, and else stays
 abbrev pub CountsReads : Stop → ℕ → ℕ → Type 0

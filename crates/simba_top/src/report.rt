@@ -33,7 +33,7 @@ fn add(tables: &mut Sequence<TableReport>, found: Option<TableReport>) -> Result
 impl<D: Disk + Drop> Run<D> {
     // What a table has told.
     fn entries(&self, table: TableNo) -> &[Entry]
-        ensures { (w : AWorld) → nodes.Holds D.state w self.now.world.nodes
+        ensures { (w : AWorld) → nodes.Holds D.state w self.now.world.wire.nodes
             → result.now ≡ history_in (hosted_at w table) }
     {
         match self.world.entries(table) {
@@ -44,8 +44,8 @@ impl<D: Disk + Drop> Run<D> {
 
     // What is told of a table, if it is declared.
     fn table_report(&self, table: TableNo) -> Result<Option<TableReport>, AllocError>
-        requires { (is_out : ℕ → Bool) × IsWorld D.state is_out self.now.world.nodes }
-        ensures told { (w : AWorld) → nodes.Holds D.state w self.now.world.nodes
+        requires { (is_out : ℕ → Bool) × IsWorld D.state is_out self.now.world.wire.nodes }
+        ensures told { (w : AWorld) → nodes.Holds D.state w self.now.world.wire.nodes
             → IfOk result (λ found. found ≡ table_told table (history_in (hosted_at w table)) (schema_at w table)) }
         ensures named { IfOk result (λ found. IfSome found (λ report. IsUtf8 report.name)) }
     {
@@ -64,8 +64,8 @@ impl<D: Disk + Drop> Run<D> {
 
     // What is told of the declared tables.
     fn table_reports(&self) -> Result<Sequence<TableReport>, AllocError>
-        requires { (is_out : ℕ → Bool) × IsWorld D.state is_out self.now.world.nodes }
-        ensures told { (w : AWorld) → nodes.Holds D.state w self.now.world.nodes
+        requires { (is_out : ℕ → Bool) × IsWorld D.state is_out self.now.world.wire.nodes }
+        ensures told { (w : AWorld) → nodes.Holds D.state w self.now.world.wire.nodes
             → IfOk result (λ tables. tables ≡ tables_told w (λ table. history_in (hosted_at w table))) }
         ensures named { IfOk result AreNamed }
     {
@@ -78,8 +78,8 @@ impl<D: Disk + Drop> Run<D> {
 
     /// The report of the run so far.
     pub(crate) fn report(&self) -> Result<String, AllocError>
-        requires { (is_out : ℕ → Bool) × IsWorld D.state is_out self.now.world.nodes }
-        ensures { (w : AWorld) → nodes.Holds D.state w self.now.world.nodes
+        requires { (is_out : ℕ → Bool) × IsWorld D.state is_out self.now.world.wire.nodes }
+        ensures { (w : AWorld) → nodes.Holds D.state w self.now.world.wire.nodes
             → IfOk result (λ text. string_bytes text ≡ report_text (record {
               lines = self.now.told;
               tables = tables_told w (λ table. history_in (hosted_at w table));

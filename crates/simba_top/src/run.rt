@@ -262,7 +262,7 @@ fn reported<K: Sink, D: Disk + Drop, P: Depot<Disk = D>>(
     sink: &mut K,
     depot: &mut P,
 ) -> Result<(), Stop>
-    requires { IsWorld D.state (P.state depot.old).is_out run.world.nodes }
+    requires { IsWorld D.state (P.state depot.old).is_out run.world.wire.nodes }
     ensures done { (input : List ℕ) → IsFinished D.state input run (P.state depot.old).is_out
         → OnOk result (IsDone outputs.Report (IsOnDisks D.state (P.returned depot.new)) input
         (K.holds sink.old) (K.holds sink.new)) }
@@ -290,7 +290,7 @@ fn ended<K: Sink, D: Disk + Drop, P: Depot<Disk = D>>(
     stop: Stop,
 ) -> Stop
     requires few { run.count ≤ MOST_LINES }
-    requires held { stop ≢ AStop.Memory → IsWorld D.state (P.state depot.old).is_out run.world.nodes }
+    requires held { stop ≢ AStop.Memory → IsWorld D.state (P.state depot.old).is_out run.world.wire.nodes }
     ensures ends { (output : AnOutput) (input : List ℕ) (left before : Option (List ℕ))
         → EndedBy output (Led D.state run.world) stop input run.count left before (K.holds sink.old)
         → Stopped output (IsOnDisks D.state (P.returned depot.new)) result input left before (K.holds sink.new) }

@@ -1,4 +1,4 @@
-ghost use Rattle.std.specs.Prelude.{◌≡◌, ◌≢◌, ◌⊎◌, ◌+◌, ◌<◌, ◌≤◌, ◌++◌, ◌∷◌, [], ℕ, Bool, false, List, Option, Some};
+ghost use Rattle.std.specs.Prelude.{◌≡◌, ◌≢◌, ◌⊎◌, ◌+◌, ◌<◌, ◌≤◌, ◌++◌, ◌∷◌, [], ℕ, Bool, true, false, List, Option, Some};
 ghost use Rattle.std.specs.Prelude.{map, OnOk, OnErr, IfOk, IfErr, IfSome, IfNone, MatchResult, MatchOption, MatchBool};
 ghost use Rattle.std.specs.List.{flat_map, AllByRecursion};
 ghost use Rattle.std.specs.Io.KnownBytes.{Appends, IsAtEnd};
@@ -6,16 +6,17 @@ ghost use Rattle.table_model.specs.declared.event.Event.{Event as AnEvent};
 ghost use Rattle.table_model.specs.declared.line.TextLine.{TextLine as ALine};
 ghost use Rattle.script_text.specs.Grammar.{Spells};
 ghost use Rattle.transcript_text.specs.Text.{text_of, stop_text};
+ghost use Rattle.world_tables.specs.Sound.{is_declaration};
+ghost use Rattle.world_tables.specs.Turns.{Happening};
 ghost use Rattle.world_tables.specs.World.{World as AWorld};
 ghost use Rattle.fair_laws.specs.Reached.{IsBuilt, IsReached as IsReachedWorld};
-ghost use Rattle.wire_tables.specs.Wire.{Wire};
-ghost use Rattle.node_steps.specs.Faults.{all_faults, all_faults_back};
-ghost use Rattle.node_steps.specs.Holds.{AreOut, IsWorld};
+ghost use Rattle.gated_tables.specs.Net.{start};
+ghost use Rattle.gated_tables.specs.Runs.{net_from};
+ghost use Rattle.node_steps.specs.Faults.{all_faults_back};
+ghost use Rattle.node_steps.specs.Holds.{IsWorld};
 ghost use Rattle.node_steps.specs.Holds as nodes;
 ghost use Rattle.node_steps.specs.Rows.{AreRowsBack};
-ghost use Rattle.wire_steps.specs.Holds.{Holds};
-ghost use Rattle.wire_steps.specs.Reached.{IsReached};
-ghost use Rattle.wire_steps.specs.Steps.{IsUndone};
+ghost use Rattle.net_steps.specs.Steps.{all_faults, IsUndone};
 ghost use Rattle.line_widths.specs.Widths.{HasWidths};
 ghost use Rattle.simba_top.specs.declared.output.Output.{Output as AnOutput};
 ghost use Rattle.simba_top.specs.declared.output.Output.TheVariants as outputs;
@@ -23,21 +24,21 @@ ghost use Rattle.simba_top.specs.Ends.{IsNext, IsRun};
 ghost use Rattle.simba_top.specs.Faults.{Led, GoesOver};
 ghost use Rattle.stab_io.specs.Faults.{Rose, AppendsFront};
 ghost use Rattle.simba_top.specs.Script.{IsWhole};
-ghost use Rattle.simba_top.specs.Stands.{IsReady, IsUnderway, Stands, HasLine, Goes, GoesOn, IsCause, EndedBy, Stopped};
-ghost use Rattle.simba_top.specs.Stands.{IsDone, IsFinished, CountsReads, CountsPuts, CountsDepots};
+ghost use Rattle.simba_top.specs.Stands.{IsReady, IsBehind, IsUnderway, Stands, HasLine, Goes, GoesOn, IsCause};
+ghost use Rattle.simba_top.specs.Stands.{EndedBy, Stopped, IsDone, IsFinished, CountsReads, CountsPuts, CountsDepots};
 
 use crate::row_names::RowNames;
 use crate::run::MOST_LINES;
 use crate::stop::Stop;
 use disk_trait::{Depot, Disk};
 use line_widths::know_line;
+use net_steps::World;
 use node_steps::Lines;
 use row_value::Bytes;
 use script_text::{Declared, line_text, parse_line, stop_text};
 use stab_io::{Failed, LineReader, Sink, Source};
 use std::alloc::{AllocError, Global};
 use table_model::{Event, TextLine};
-use wire_steps::World;
 
 /// A run over a script: what its lines so far have made.
 #[derive(Drop)]
@@ -127,9 +128,9 @@ impl<D: Disk + Drop> Run<D> {
             → Stands D.state input [] [] self.old (P.state depot.old).is_out (S.left source.old)
             → IfErr result (λ stop. EndedBy outputs.Transcript (Led D.state self.new.world) stop input self.new.count
             (S.left source.new) (K.holds sink.old) (K.holds sink.new)) }
-        ensures held { OnOk result (IsWorld D.state (P.state depot.new).is_out self.new.world.nodes) }
+        ensures held { OnOk result (IsWorld D.state (P.state depot.new).is_out self.new.world.wire.nodes) }
         ensures left { IfErr result (λ stop. stop ≢ Stop.Memory
-            → IsWorld D.state (P.state depot.new).is_out self.new.world.nodes) }
+            → IsWorld D.state (P.state depot.new).is_out self.new.world.wire.nodes) }
         ensures reads { MatchResult result (λ _. S.faults source.new ≡ S.faults source.old)
             (λ stop. CountsReads stop (S.faults source.old) (S.faults source.new)) }
         ensures puts { MatchResult result (λ _. K.faults sink.new ≡ K.faults sink.old)
@@ -201,7 +202,7 @@ impl<D: Disk + Drop> Run<D> {
             → IfErr result (λ stop. EndedBy outputs.Transcript (Led D.state self.new.world) stop input self.new.count
             (S.left source.new) before (K.holds sink.new)) }
         ensures left { IfErr result (λ stop. stop ≢ Stop.Memory
-            → IsWorld D.state (P.state depot.new).is_out self.new.world.nodes) }
+            → IsWorld D.state (P.state depot.new).is_out self.new.world.wire.nodes) }
         ensures reads { MatchResult result (λ _. S.faults source.new ≡ S.faults source.old)
             (λ stop. CountsReads stop (S.faults source.old) (S.faults source.new)) }
         ensures puts { MatchResult result (λ _. K.faults sink.new ≡ K.faults sink.old)
@@ -219,11 +220,11 @@ impl<D: Disk + Drop> Run<D> {
 
     /// Gives each disk back to the depot. It takes no memory.
     pub(crate) fn close<P: Depot<Disk = D>>(self, depot: &mut P)
-        requires { IsWorld D.state (P.state depot.old).is_out self.world.nodes }
+        requires { IsWorld D.state (P.state depot.old).is_out self.world.wire.nodes }
         ensures back { (k : ℕ) → (P.state depot.new).is_out k ≡ false }
-        ensures told { (w : AWorld) → nodes.Holds D.state w self.world.nodes → IfSome (P.returned depot.new)
-            (λ disks. all_faults_back D.state disks w ≡ all_faults D.state self.world.nodes) }
-        ensures rows { (w : AWorld) → IsReachedWorld w → nodes.Holds D.state w self.world.nodes
+        ensures told { (w : AWorld) → nodes.Holds D.state w self.world.wire.nodes → IfSome (P.returned depot.new)
+            (λ disks. all_faults_back D.state disks w ≡ all_faults D.state self.world) }
+        ensures rows { (w : AWorld) → IsReachedWorld w → nodes.Holds D.state w self.world.wire.nodes
             → IfSome (P.returned depot.new) (λ disks. AreRowsBack D.state disks w) }
         ensures faults { (P.state depot.new).faults ≡ (P.state depot.old).faults }
     {
@@ -300,11 +301,12 @@ impl<D: Disk + Drop> Run<D> {
             → IfErr result (λ stop. stop ≡ Stop.Sent → (event : AnEvent)
             × IsNext input script self.old.count event
             × IsRun (GoesOver (Led D.state self.new.world) event) script told) }
-        ensures left { (v : Wire) → IsReached v → Holds D.state v self.old.world
-            → AreOut (P.state depot.old).is_out v.world → IfErr result (λ stop. stop ≢ Stop.Memory → stop ≢ Stop.Sent
-            → IsUndone D.state v (P.state depot.new).is_out self.old.world self.new.world) }
+        ensures left { (happenings : List Happening)
+            → IsBehind D.state happenings self.old.names self.old.world (P.state depot.old).is_out
+            → IfErr result (λ stop. stop ≢ Stop.Memory → stop ≢ Stop.Sent → IsUndone D.state
+            (net_from start happenings) (P.state depot.new).is_out self.old.world self.new.world) }
         ensures nodes { IfErr result (λ stop. stop ≢ Stop.Memory
-            → IsWorld D.state (P.state depot.new).is_out self.new.world.nodes) }
+            → IsWorld D.state (P.state depot.new).is_out self.new.world.wire.nodes) }
         ensures fault { IfErr result (λ stop. (stop ≢ Stop.Read) × (stop ≢ Stop.Put)) }
         ensures depots { MatchResult result (λ _. (P.state depot.new).faults ≡ (P.state depot.old).faults)
             (λ stop. CountsDepots stop (P.state depot.old).faults (P.state depot.new).faults) }
@@ -326,6 +328,7 @@ impl<D: Disk + Drop> Run<D> {
         requires ready { IsReady self.old }
         requires few { self.old.count < MOST_LINES }
         requires built { IsBuilt event.now }
+        requires early { is_declaration event.now ≡ true → self.old.names.started ≡ false }
         requires held { IsUnderway D.state (P.state depot.old).is_out self.old }
         ensures held { OnOk result (IsUnderway D.state (P.state depot.new).is_out self.new) }
         ensures ready { OnOk result (IsReady self.new × (self.new.count ≡ self.old.count + 1)) }
@@ -343,11 +346,12 @@ impl<D: Disk + Drop> Run<D> {
             → Spells self.old.names line event.now
             → IfErr result (λ stop. stop ≡ Stop.Sent → IsNext input script self.old.count event.now
             × IsRun (GoesOver (Led D.state self.new.world) event.now) script told) }
-        ensures left { (v : Wire) → IsReached v → Holds D.state v self.old.world
-            → AreOut (P.state depot.old).is_out v.world → IfErr result (λ stop. stop ≢ Stop.Memory → stop ≢ Stop.Sent
-            → IsUndone D.state v (P.state depot.new).is_out self.old.world self.new.world) }
+        ensures left { (happenings : List Happening)
+            → IsBehind D.state happenings self.old.names self.old.world (P.state depot.old).is_out
+            → IfErr result (λ stop. stop ≢ Stop.Memory → stop ≢ Stop.Sent → IsUndone D.state
+            (net_from start happenings) (P.state depot.new).is_out self.old.world self.new.world) }
         ensures nodes { IfErr result (λ stop. stop ≢ Stop.Memory
-            → IsWorld D.state (P.state depot.new).is_out self.new.world.nodes) }
+            → IsWorld D.state (P.state depot.new).is_out self.new.world.wire.nodes) }
         ensures fault { IfErr result (λ stop. (stop ≢ Stop.Read) × (stop ≢ Stop.Put)) }
         ensures depots { MatchResult result (λ _. (P.state depot.new).faults ≡ (P.state depot.old).faults)
             (λ stop. CountsDepots stop (P.state depot.old).faults (P.state depot.new).faults) }

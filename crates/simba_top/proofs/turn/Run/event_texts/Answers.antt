@@ -1,3 +1,4 @@
+use Rattle.simba_top.proofs.Declared.{early}
 use Rattle.simba_top.proofs.Events.{built}
 use Rattle.std.proofs.lemmas.Result.{err_from_is_err_and}
 use Rattle.simba_top.proofs.Sounds.{nothing_undone}
@@ -9,6 +10,9 @@ use Rattle.simba_top.proofs.turn.Run.event_texts.Goals as goal
 
 pub carry_out-requires-clause-built : goal.carry_out-requires-clause-built
 carry_out-requires-clause-built g c = built c.args.self.now.names c.args.line.now c.in-Some.event (rw c.in-Some.is at c.in_ok-event.ensures.event)
+
+pub carry_out-requires-clause-early : goal.carry_out-requires-clause-early
+carry_out-requires-clause-early g c = early c.args.self.now.names c.args.line.now c.in-Some.event (rw c.in-Some.is at c.in_ok-event.ensures.event)
 
 pub returns-in-None-clause-held : goal.returns-in-None-clause-held
 returns-in-None-clause-held g c = passed_line g.D.Disk.state (g.P.Depot.state c.args.depot.now).is_out c.args.self.now c.requires.held
@@ -23,9 +27,9 @@ returns-in-None-clause-texts g c = λ input script told left has.
     (rw c.in-None.is at c.in_ok-event.ensures.passed))
 
 pub returns-in_err-event-clause-left : goal.returns-in_err-event-clause-left
-returns-in_err-event-clause-left g c = λ v r h out.
+returns-in_err-event-clause-left g c = λ happenings behind.
     let p = err_from_is_err_and c.from_residual.result c.from_residual.ensures.1 in
-    rw (p.1, p.2) (λ no sent. nothing_undone g.D.Disk.state v (g.P.Depot.state c.args.depot.now).is_out c.args.self.now.world h out)
+    rw (p.1, p.2) (λ no sent. nothing_undone g.D.Disk.state happenings c.args.self.now.names c.args.self.now.world (g.P.Depot.state c.args.depot.now).is_out behind)
 
 pub returns-in_err-event-clause-nodes : goal.returns-in_err-event-clause-nodes
 returns-in_err-event-clause-nodes g c =

@@ -1,9 +1,6 @@
 use Rattle.std.proofs.lemmas.Result.{err_from_is_err_and}
-use Rattle.wire_tables.specs.Wire.{start}
-use Rattle.wire_tables.specs.Runs.{wire_from}
 use Rattle.simba_top.specs.Faults.{Led}
 use Rattle.simba_top.specs.declared.output.Output.TheVariants.{Transcript}
-use Rattle.simba_top.proofs.Sounds.{reached}
 use Rattle.simba_top.proofs.Underway.{are_nodes, line_read}
 use Rattle.simba_top.proofs.Endings.{same_count, ended, ended_left, still_tells, tells, tells_same, finished, put_done, put_failed}
 use Rattle.simba_top.proofs.turn.Run.turn.Goals as goal
@@ -47,8 +44,8 @@ returns-in_err-texts-clause-ends g c = λ input before goes.
     c.event_texts.new.self.count (g.S.Source.left c.next_line.new.source) before now
     c.in_err-texts.ensures.few (c.in_err-texts.ensures.texts input goes.0 goes.1 (g.S.Source.left c.next_line.new.source) (rw c.deref.ensures.value has))
     (tells g.D.Disk.state input c.args.self.now out left before now goes)
-    (λ no sent. still_tells g.D.Disk.state goes.0 goes.1 c.next_line.new.self.world c.event_texts.new.self.world out (g.P.Depot.state c.event_texts.new.depot).is_out before now has.world
-    (c.in_err-texts.ensures.left (wire_from start has.world.run) (reached g.D.Disk.state goes.0 goes.1 c.next_line.new.self.world out has.world) has.world.held has.world.out no sent) goes.3)
+    (λ no sent. still_tells g.D.Disk.state goes.0 goes.1 c.next_line.new.self.names c.next_line.new.self.world c.event_texts.new.self.world out (g.P.Depot.state c.event_texts.new.depot).is_out before now has.world
+    (c.in_err-texts.ensures.left has.world.run has.world.behind no sent) goes.3)
     (λ is. let o = c.in_err-texts.ensures.over input goes.0 goes.1 (g.S.Source.left c.next_line.new.source) (rw c.deref.ensures.value has) is in (o.0, o.1, (goes.1, o.2, goes.3))))
 
 pub returns-in_err-put_all-clause-ends : goal.returns-in_err-put_all-clause-ends

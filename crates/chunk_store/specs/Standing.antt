@@ -91,6 +91,7 @@ Stops state images count pick old new =
     stops.Stops state images IsIndex HasSpare chunks_of count pick old.inner new.inner
 
 -- the fuse of its disk is as new, and all else is as it was
-abbrev pub Renews : {D : Type 0} → (D → DiskState) → (D → ℕ → List ℕ → Type 0) → ChunkDev (FuseDisk D) → ChunkDev (FuseDisk D)
+abbrev pub Renews : {D : Type 0} → (D → DiskState) → (D → ℕ → List ℕ → Type 0) → ChunkDev (FuseDisk D)
+    → ChunkDev (FuseDisk D)
     → Type 0
 Renews state images old new = stops.Renews state images IsIndex HasSpare chunks_of old.inner new.inner

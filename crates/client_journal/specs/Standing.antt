@@ -205,7 +205,8 @@ pub record IsLater {D : Type 0} (state : D → DiskState) (old new : Journal D) 
   pub chunks : (state (disk_of (chunks.vault_of old.chunks))).moment
       ≤ (state (disk_of (chunks.vault_of new.chunks))).moment
   pub slots : (state (disk_of (slots.vault_of old.slots))).moment ≤ (state (disk_of (slots.vault_of new.slots))).moment
-  pub journal : (state (disk_of (journals.vault_of old.journal))).moment ≤ (state (disk_of (journals.vault_of new.journal))).moment
+  pub journal : (state (disk_of (journals.vault_of old.journal))).moment
+      ≤ (state (disk_of (journals.vault_of new.journal))).moment
 
 -- At every moment since the old one, whatever a crash leaves of the three disks stands for devices with R.
 pub record DevsLeave {D : Type 0} (state : D → DiskState) (images : D → ℕ → List ℕ → Type 0) (old new : Journal D)
@@ -228,7 +229,8 @@ pub record Works {D T : Type 0} (state : D → DiskState) (images : D → ℕ �
   -- a crash at any moment of the call leaves what was there before the write or what is there after it
   pub any_moment : DevsLeave state images old new (IsBeforeOrAfter (devs state old) w)
   -- a fuse that stops one of the first two calls of the write's disk leaves it undone, whatever a crash leaves
-  pub early : StopsWithin state (vault_at old (device_of w)) 2 → DevsLeave state images old new (λ d. d ≡ devs state old)
+  pub early : StopsWithin state (vault_at old (device_of w)) 2
+      → DevsLeave state images old new (λ d. d ≡ devs state old)
   -- one that stops one of its four calls stops the write
   pub stopped : StopsWithin state (vault_at old (device_of w)) 4 → OnOk result ⊥
   -- one that lets four calls pass stops none of them

@@ -1,5 +1,6 @@
 //! What a client's devices tell, with the commit at work applied to what is held.
-ghost use Rattle.std.specs.Prelude.{◌≡◌, ◌&&◌, ◌++◌, ◌∷◌, [], ℕ, List, Some, is_none, IfOk, IfSome, IfNone, IsSome, OnOk};
+ghost use Rattle.std.specs.Prelude.{◌≡◌, ◌&&◌, ◌++◌, ◌∷◌, [], ℕ, List, Some, is_none, IfOk, IfSome, IfNone, IsSome};
+ghost use Rattle.std.specs.Prelude.{OnOk};
 ghost use Rattle.std.specs.Bool.{MatchBool};
 ghost use Rattle.std.specs.BTreeSet.{keys};
 ghost use Rattle.std.specs.List.Sorted.{IsStrictlySortedBy};
@@ -217,7 +218,8 @@ impl<D: Disk + Drop> Journal<D> {
         requires at_work { IsSome (committed_plan (devs D.state self.old).journal.at_work) }
         ensures reads { Reads D.state D.images self.old self.new result }
         ensures commit { IfOk result (λ commit. (devs D.state self.old).journal.at_work ≡ Committed commit) }
-        ensures once { IsOnceMore (gets (journals.vault_of self.old.journal)) (gets (journals.vault_of self.new.journal)) }
+        ensures once { IsOnceMore (gets (journals.vault_of self.old.journal))
+            (gets (journals.vault_of self.new.journal)) }
         ensures slots { self.new.slots ≡ self.old.slots }
         ensures chunks { self.new.chunks ≡ self.old.chunks }
     {
@@ -230,7 +232,8 @@ impl<D: Disk + Drop> Journal<D> {
         requires looked { AreLookedAt D.state self.old }
         ensures reads { Reads D.state D.images self.old self.new result }
         ensures commit { IfOk result (λ found. found ≡ commit_of (devs D.state self.old).journal.at_work) }
-        ensures once { IsOnceMore (gets (journals.vault_of self.old.journal)) (gets (journals.vault_of self.new.journal)) }
+        ensures once { IsOnceMore (gets (journals.vault_of self.old.journal))
+            (gets (journals.vault_of self.new.journal)) }
         ensures slots { self.new.slots ≡ self.old.slots }
         ensures chunks { self.new.chunks ≡ self.old.chunks }
     {

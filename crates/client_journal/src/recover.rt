@@ -403,10 +403,10 @@ impl<D: Disk + Drop> Journal<D> {
         }
     }
 
-    /// Takes on the end of a plan that was cut short, if one was: each vault is opened; the chunks of an intend that are
-    /// there are dropped; of a commit the slots of its row and the record of its table are put again, its drops that are
-    /// still there are dropped, and it is done. These writes are then to be done, and take no memory. It is called once
-    /// the devices were looked at, and reads the commit.
+    /// Takes on the end of a plan that was cut short, if one was: each vault is opened; the chunks of an intend that
+    /// are there are dropped; of a commit the slots of its row and the record of its table are put again, its drops
+    /// that are still there are dropped, and it is done. These writes are then to be done, and take no memory. It is
+    /// called once the devices were looked at, and reads the commit.
     pub fn recover(&mut self) -> Result<Rolled, JournalFault>
         requires { AreUp self.old → IsStarting D.state self.old }
         ensures fuse { KeepsUnset D.state self.old self.new }

@@ -55,8 +55,8 @@ impl<D: Disk + Drop> Journal<D> {
         }
     }
 
-    /// The plan that the next write begins, brings a chunk of, or commits; else the committed one that is at work; else 0,
-    /// as where a start drops the chunks of a plan that wasn't committed.
+    /// The plan that the next write begins, brings a chunk of, or commits; else the committed one that is at work; else
+    /// 0, as where a start drops the chunks of a plan that wasn't committed.
     pub fn plan_at_work(&self) -> u64
         requires up { IsUp (journals.vault_of self.now.journal) }
         requires looked { journals.IsLookedAt D.state self.now.journal }

@@ -1,5 +1,6 @@
 //! What holds a new content.
-ghost use Rattle.std.specs.Prelude.{◌≡◌, ◌⊎◌, ℕ, ◌+◌, ◌<◌, ◌≤◌, ◌^◌, true, false, List, [], ◌∷◌, ◌++◌, length, drop, Some};
+ghost use Rattle.std.specs.Prelude.{◌≡◌, ◌⊎◌, ℕ, ◌+◌, ◌<◌, ◌≤◌, ◌^◌, true, false, List, [], ◌∷◌, ◌++◌, length, drop};
+ghost use Rattle.std.specs.Prelude.{Some};
 ghost use Rattle.std.specs.Prelude.{IfOk, OnOk, sum_by};
 ghost use Rattle.std.specs.List.{AllByRecursion, Contains};
 ghost use Rattle.row_value.specs.Fit.{chunk_count, chunks_of};
@@ -14,7 +15,8 @@ ghost use Rattle.step_tables.specs.Chunks.{first_of, is_of_each, objects_of};
 ghost use Rattle.step_tables.specs.ClientMoves.{known};
 ghost use Rattle.journal_laws.specs.Whole.{whole, HaveLens, names_known};
 ghost use Rattle.journal_laws.specs.Moves.{plan_meaning};
-ghost use Rattle.held_contents.specs.Holding.{IsFit, IsHeldAgainst, IsNamedAgainst, HoldsObjects, HoldsOne, first_shown};
+ghost use Rattle.held_contents.specs.Holding.{IsFit, IsHeldAgainst, IsNamedAgainst, HoldsObjects, HoldsOne};
+ghost use Rattle.held_contents.specs.Holding.{first_shown};
 ghost use Rattle.held_contents.specs.Holding.{with_names, AreShown};
 ghost use Rattle.held_contents.specs.Holding.{pieces_shown, names_shown, pieces_held, IsBroughtPiece, brought_name};
 

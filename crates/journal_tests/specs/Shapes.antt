@@ -21,7 +21,12 @@ object_of len pieces = Row [] (record { len = len; pieces = pieces } ∷ [])
 -- a last write of a row, which isn't sent
 abbrev pub main_of : ℕ → HeldContent → Slots
 main_of number content =
-    record { main = Some (record { number = number; read = 0; content = content }); shadow = None; out = None; conflict = None }
+    record {
+      main = Some (record { number = number; read = 0; content = content });
+      shadow = None;
+      out = None;
+      conflict = None;
+    }
 
 abbrev pub change_of : List ℕ → ℕ → HeldContent → RowChange
 change_of row number content = record { row = row; slots = main_of number content }

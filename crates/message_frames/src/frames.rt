@@ -34,7 +34,8 @@ pub fn frame_of(alloc: Global, message: &Message) -> Result<Vec<u8>, AllocError>
 
 // The message of a frame.
 fn message_of(alloc: Global, frame: &Frame) -> Result<Message, FrameError>
-    ensures found { IfOk result (λ message. IsOfKind frame.now.kind message × (frame.now.body ≡ body_spelling message)) }
+    ensures found { IfOk result (λ message. IsOfKind frame.now.kind message
+        × (frame.now.body ≡ body_spelling message)) }
     ensures only { (message : Message) → IsOfKind frame.now.kind message → frame.now.body ≡ body_spelling message
         → IfOk result (λ found. found ≡ message) × IfErr result (λ error. error ≡ errors.Memory) }
 {

@@ -1,5 +1,5 @@
 -- Rows that a plan leaves fit.
-use Rattle.std.proofs.Common.{◌≡◌, inl, inr, ◌⊎◌, ℕ, Bool, true, false, cond, List, [], Option, Some, None, refl, sym, ◌∙◌, ap, subst}
+use Rattle.std.proofs.Common.{◌≡◌, inl, inr, ◌⊎◌, ⊎_elim, ℕ, Bool, true, false, cond, List, [], Option, Some, None, refl, sym, ◌∙◌, ap, subst}
 use Rattle.std.specs.Prelude.{◌||◌, not, IfSome, option_map}
 use Rattle.std.specs.declared.cmp.Ordering.{Ordering}
 use Rattle.std.specs.declared.cmp.Ordering.TheVariants.{Less, Equal, Greater}
@@ -23,11 +23,12 @@ use Rattle.client_journal.specs.declared.plan.Plan.{Plan}
 use Rattle.client_journal.specs.Agenda.{meaning_with}
 use Rattle.client_journal.specs.Names.{names_of}
 use Rattle.client_journal.specs.Plan.{numbered_slots, numbered_row, commit_for}
-use Rattle.client_journal.specs.Redone.{slots_for, row_behind, with_row_if, moved_if, record_from, record_for, with_record_if, applied}
+use Rattle.client_journal.specs.Redone.{slots_for, row_behind, with_row_if, moved_if, position_from, record_from, record_for, with_record_if, applied}
 use Rattle.client_journal.specs.There.{all_lens, fits_by_len, repeats, any_content}
 use Rattle.client_journal.proofs.Applied.{same_record, same_slots}
 use Rattle.client_journal.proofs.Lookups.{cases_key, slots_put, slots_put_other, record_put}
-use Rattle.plan_limits.specs.Fit.{IsFitRow, AreFitRows, AreOlderRows, IsFitChange}
+use Rattle.plan_limits.specs.Fit.{IsFitRow, AreFitRows, AreOlderRows, IsFitChange, HasSchema, AreEmpty, KeepsRows}
+use Rattle.journal_laws.specs.Holds.{empty}
 use Rattle.plan_limits.proofs.Numbers.{others, numbered}
 
 -- ---- a record at another position
@@ -40,6 +41,10 @@ same_schema meaning a b slots same k = record {
   spelled = k.spelled;
   pieces = k.pieces;
 }
+
+-- empty slots fit whatever the table is
+empty_is_fit : (meaning : LocalName → List ℕ) (table : Option TableRecord) → IsFitRow meaning table empty
+empty_is_fit meaning table = record { whole = record { right = refl }; spelled = (tt, (tt, (tt, tt))); pieces = tt }
 
 is_equal : (o : Ordering) → is_eq o ≡ true → o ≡ Equal
 is_equal Less h = absurd cc
@@ -74,7 +79,7 @@ moved_fit meaning held at (Some position) table slots k = pick (record_of held a
 some_same : (a b : RowSlots) → Some a ≡ Some b → a ≡ b
 some_same a b e = cc
 
-module _ (meaning : LocalName → List ℕ) (held : SlotData) (number : ℕ) (plan : Plan) (fit : AreFitRows meaning held) (older : AreOlderRows number held) (no_record : plan.new_record ≡ None) (n : IsPlanNumber number)
+module _ (meaning : LocalName → List ℕ) (held : SlotData) (number : ℕ) (plan : Plan) (fit : AreFitRows meaning held) (older : AreOlderRows number held) (n : IsPlanNumber number)
     (change : IfSome plan.row (IsFitChange meaning number plan.brought (record_of held plan.table))) where
   -- it is the row that changes, or another one
   row_fit : (change : RowChange) → IsFitChange meaning number plan.brought (record_of held plan.table) change → (table : ℕ) (key : List ℕ) (stored : RowSlots)
@@ -100,8 +105,8 @@ module _ (meaning : LocalName → List ℕ) (held : SlotData) (number : ℕ) (pl
   slots_fit None c table key stored is = others meaning (record_of held table) number plan.brought stored.slots (fit.each table key stored is) (older.each table key stored is)
   slots_fit (Some change) c table key stored is = row_fit change c table key stored is (cases_key (key_at plan.table change.row) (key_at table key))
 
-  pub rows_followed : AreFitRows (meaning_with meaning number plan.brought) (applied (commit_for number plan) held)
-  rows_followed = record {
+  plain_followed : plan.new_record ≡ None → AreFitRows (meaning_with meaning number plan.brought) (applied (commit_for number plan) held)
+  plain_followed no_record = record {
     each = λ table key stored is.
         let commit = commit_for number plan in
         let behind = with_row_if held (row_behind commit) in
@@ -117,3 +122,50 @@ module _ (meaning : LocalName → List ℕ) (held : SlotData) (number : ℕ) (pl
         ∙ ap (moved_if plan.table plan.position) (sym (same_record held (row_behind commit) plan.table)) in
         subst (λ (o : Option TableRecord). IsFitRow (meaning_with meaning number plan.brought) (record_of (with_record_if behind o) table) stored.slots) (sym same) moved;
   }
+
+  -- ---- a table that is opened or closed
+
+  module _ (renewed : RecordChange) (new : plan.new_record ≡ Some renewed) (keeps : KeepsRows held plan renewed) where
+    abbrev means : LocalName → List ℕ
+    means = meaning_with meaning number plan.brought
+
+    abbrev made : TableRecord
+    made = record { table = plan.table; state = renewed.state; schema = renewed.schema; position = position_from plan.position (record_of held plan.table) }
+
+    applied_is : applied (commit_for number plan) held ≡ with_record held made
+    applied_is =
+        ap (λ (o : Option RowChange). with_record_if (with_row_if held (option_map (slots_for (commit_for number plan)) (option_map (numbered_row number) o))) (record_for (record_of held plan.table) (commit_for number plan))) keeps.no_row
+        ∙ ap (λ (r : Option RecordChange). with_record_if held (record_from plan.table r plan.position (record_of held plan.table))) new
+
+    still_fit : (table : ℕ) (key : List ℕ) (stored : RowSlots) → slots_of held table key ≡ Some stored → IsFitRow means (record_of held table) stored.slots
+    still_fit table key stored is = others meaning (record_of held table) number plan.brought stored.slots (fit.each table key stored is) (older.each table key stored is)
+
+    same_schema_fit : (o : Option TableRecord) → record_of held plan.table ≡ o → HasSchema renewed.schema o → (table : ℕ) (key : List ℕ) (stored : RowSlots) → slots_of held table key ≡ Some stored
+        → IsFitRow means (record_of (with_record held made) table) stored.slots
+    same_schema_fit None there has table key stored is = absurd has
+    same_schema_fit (Some old) there has table key stored is = put_fit means held old made there has table stored.slots (still_fit table key stored is)
+
+    empty_fit : AreEmpty held plan.table → (table : ℕ) (key : List ℕ) (stored : RowSlots) → slots_of held table key ≡ Some stored → IsFitRow means (record_of (with_record held made) table) stored.slots
+    empty_fit none table key stored is = pick (is_at (nat_cmp plan.table) table) refl
+      where
+        pick : (b : Bool) → is_at (nat_cmp plan.table) table ≡ b → IsFitRow means (record_of (with_record held made) table) stored.slots
+        pick true at =
+            let one : plan.table ≡ table = exact_unsigned plan.table table (is_equal (nat_cmp plan.table table) at) in
+            let bare : stored.slots ≡ empty = none key stored (ap (λ (q : ℕ). slots_of held q key) one ∙ is) in
+            subst (λ (s : Slots). IsFitRow means (record_of (with_record held made) table) s) (sym bare) (empty_is_fit means (record_of (with_record held made) table))
+        pick false at =
+            subst (λ (o : Option TableRecord). IsFitRow means o stored.slots)
+            (sym (lookup-changed nat_cmp nat_cmp_total held.tables made.table (Some made) table ∙ ap (λ (b : Bool). cond b (Some made) (record_of held table)) at)) (still_fit table key stored is)
+
+    record_followed : AreFitRows means (applied (commit_for number plan) held)
+    record_followed = subst (λ (s : SlotData). AreFitRows means s) (sym applied_is) (record {
+      each = λ table key stored is.
+          ⊎_elim (λ has. same_schema_fit (record_of held plan.table) refl has table key stored is) (λ none. empty_fit none table key stored is) keeps.kept;
+    })
+
+  pub rows_followed : IfSome plan.new_record (KeepsRows held plan) → AreFitRows (meaning_with meaning number plan.brought) (applied (commit_for number plan) held)
+  rows_followed keeps = pick plan.new_record refl keeps
+    where
+      pick : (o : Option RecordChange) → plan.new_record ≡ o → IfSome o (KeepsRows held plan) → AreFitRows (meaning_with meaning number plan.brought) (applied (commit_for number plan) held)
+      pick None new k = plain_followed new
+      pick (Some renewed) new k = record_followed renewed new k

@@ -1,5 +1,5 @@
 -- Rows whose slots a plan may put: their contents are whole, and all that they hold has a spelling.
-use Rattle.std.specs.Prelude.{◌≡◌, ℕ, ◌<◌, ◌^◌, false, List, length, Option, Some, IfSome}
+use Rattle.std.specs.Prelude.{◌≡◌, ◌⊎◌, ℕ, ◌<◌, ◌^◌, false, List, length, Option, Some, None, IfSome}
 use Rattle.std.specs.Prelude.{FitsSigned}
 use Rattle.std.specs.Int.{w64}
 use Rattle.std.specs.List.{AllByRecursion}
@@ -8,6 +8,7 @@ use Rattle.row_value.specs.declared.content.Cell.TheVariants as cells
 use Rattle.row_value.specs.declared.content.Content.{Content}
 use Rattle.row_value.specs.declared.content.Content.TheVariants as contents
 use Rattle.row_value.specs.declared.pieces.Piece.{Piece}
+use Rattle.row_value.specs.declared.schema.Schema.{Schema}
 use Rattle.value_codec.specs.Spelling.{HasPieceSpelling}
 use Rattle.field_codec.specs.Forms.{AreEach}
 use Rattle.table_model.specs.declared.message.Outcome.{Outcome}
@@ -20,11 +21,14 @@ use Rattle.slot_store.specs.declared.held.RowSlots.{RowSlots}
 use Rattle.slot_store.specs.declared.held.TableRecord.{TableRecord}
 use Rattle.slot_store.specs.Data.{SlotData, slots_of, record_of}
 use Rattle.plan_log.specs.declared.plan.RowChange.{RowChange}
+use Rattle.plan_log.specs.declared.plan.RecordChange.{RecordChange}
 use Rattle.client_tables.specs.declared.resolving.HeldChoice.{HeldChoice}
 use Rattle.client_tables.specs.declared.resolving.HeldChoice.TheVariants as choices
 use Rattle.client_tables.specs.Kept.{SlotEvent, Write, WriteStrong, Send, Answer, Row, Resolve}
 use Rattle.client_journal.specs.Names.{Has, names_of, names_in}
 use Rattle.client_journal.specs.There.{is_wrong, IsWhole}
+use Rattle.client_journal.specs.declared.plan.Plan.{Plan}
+use Rattle.journal_laws.specs.Holds.{empty}
 use Rattle.journal_laws.specs.Whole.{SpellsAll}
 use Rattle.journal_laws.specs.Moves.{plan_meaning}
 
@@ -111,3 +115,19 @@ pub record IsFitChange (meaning : LocalName → List ℕ) (number : ℕ) (brough
     (table : Option TableRecord) (change : RowChange) : Type 0 where
   pub fit : IsFitRow (plan_meaning meaning number brought) table change.slots
   pub names : AreOlderOrNew number (names_in change.slots)
+
+-- ---- tables that are opened and closed
+
+-- the record has this schema
+abbrev pub HasSchema : Schema → Option TableRecord → Type 0
+HasSchema schema None = ⊥
+HasSchema schema (Some old) = old.schema ≡ schema
+
+-- the slots of each row of the table are empty
+abbrev pub AreEmpty : SlotData → ℕ → Type 0
+AreEmpty held table = (row : List ℕ) (stored : RowSlots) → slots_of held table row ≡ Some stored → stored.slots ≡ empty
+
+-- A plan's new record of its table keeps the schema, or no row of the table holds anything. No row changes then.
+pub record KeepsRows (held : SlotData) (plan : Plan) (change : RecordChange) : Type 0 where
+  pub no_row : plan.row ≡ None
+  pub kept : HasSchema change.schema (record_of held plan.table) ⊎ AreEmpty held plan.table

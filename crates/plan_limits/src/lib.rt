@@ -2,7 +2,8 @@
 //! short enough.
 #![tactic(auto)]
 
-ghost use Rattle.std.specs.Prelude.{◌≡◌, ◌⊎◌, ℕ, ◌≤◌, ◌+◌, true, false, List, [], length, Option, Some, None, Ok, IfSome};
+ghost use Rattle.std.specs.Prelude.{◌≡◌, ◌⊎◌, ℕ, ◌≤◌, ◌+◌, true, false, List, [], length, Option, Some, None, Ok};
+ghost use Rattle.std.specs.Prelude.{IfSome};
 ghost use Rattle.std.specs.Map.{keys_of};
 ghost use Rattle.std.specs.List.{AllByRecursion};
 ghost use Rattle.std.specs.List.Sorted.{IsStrictlySortedBy};
@@ -36,8 +37,9 @@ ghost use Rattle.journal_laws.specs.Holds.{empty};
 ghost use Rattle.journal_laws.specs.Moves.{plan_meaning};
 ghost use Rattle.held_contents.specs.Reading.{chunks_in};
 ghost use Rattle.held_contents.specs.Holding.{IsHeldAgainst, IsNamedAgainst, AreShown, pieces_shown, names_shown};
-ghost use Rattle.plan_limits.specs.Fit.{IsFitContent, IsFitRow, AreFitRows, IsFitEvent, HaveWords, AreOlder, AreOlderOrNew};
-ghost use Rattle.plan_limits.specs.Fit.{AreOlderRows, IsFitChange};
+ghost use Rattle.plan_limits.specs.Fit.{IsFitContent, IsFitRow, AreFitRows, IsFitEvent, HaveWords, AreOlder};
+ghost use Rattle.plan_limits.specs.Fit.{AreOlderOrNew};
+ghost use Rattle.plan_limits.specs.Fit.{AreOlderRows, IsFitChange, KeepsRows};
 ghost use Rattle.plan_limits.specs.Short.{IsRowPlan, IsRowless, IsShort};
 
 /// A content whose objects have the lengths of one that fits a schema fits it by its lengths. (Does nothing: its clause
@@ -61,8 +63,8 @@ pub fn shown_chunks_are_fit()
         → IsFitContent meaning table held → repeats [] (names_shown (chunks_in meaning held)) ≡ false }
 {}
 
-/// What holds a new content that fits the table's schema is fit, where what is shown was. (Does nothing: its clause is a
-/// law.)
+/// What holds a new content that fits the table's schema is fit, where what is shown was. (Does nothing: its clause is
+/// a law.)
 pub fn new_contents_are_fit()
     ensures { (meaning : LocalName → List ℕ) (number : ℕ) (table : TableRecord) (content : Content)
         (shown : List (List (HeldPiece × List ℕ))) (held : HeldContent) (brought : List (List ℕ))
@@ -123,11 +125,12 @@ pub fn plans_are_short()
         → AllByRecursion (λ bytes. length bytes ≤ chunk_most) brought }
 {}
 
-/// Rows stay fit behind the commit of a plan that puts fit slots and leaves the table's schema, where the names of all
-/// rows were numbered by plans before it. (Does nothing: its clause is a law.)
+/// Rows stay fit behind the commit of a plan that puts fit slots and leaves the table's schema, or a table without a
+/// row, where the names of all rows were numbered by plans before it. (Does nothing: its clause is a law.)
 pub fn rows_behind_a_plan_are_fit()
     ensures { (meaning : LocalName → List ℕ) (held : SlotData) (number : ℕ) (plan : Plan)
-        → AreFitRows meaning held → AreOlderRows number held → plan.new_record ≡ None → IsPlanNumber number
+        → AreFitRows meaning held → AreOlderRows number held → IfSome plan.new_record (KeepsRows held plan)
+        → IsPlanNumber number
         → IfSome plan.row (IsFitChange meaning number plan.brought (record_of held plan.table))
         → AreFitRows (meaning_with meaning number plan.brought) (applied (commit_for number plan) held) }
 {}

@@ -1,10 +1,12 @@
-ghost use Rattle.std.specs.Prelude.{◌≡◌, ◌≤◌, Ok as Made, Err as Refused, IfOk, IfErr, OnOk, map, length, Some, slice_get};
+ghost use Rattle.std.specs.Prelude.{◌≡◌, ◌≤◌, Ok as Made, Err as Refused, IfOk, IfErr, OnOk, map, length, Some};
+ghost use Rattle.std.specs.Prelude.{slice_get};
 ghost use Rattle.std.specs.Prelude.{IfSome, position, ◌<◌, slice_set};
 ghost use Rattle.row_value.specs.declared.fit.FitFault.{FitFault as AFitFault};
 ghost use Rattle.row_value.specs.Fit.{cell_count, is_object};
 ghost use Rattle.row_edits.specs.declared.edit.EditFault.TheVariants.{Fit, Memory};
 ghost use Rattle.row_edits.specs.Edit.{misfit_for, cell_for, with_cell, cells_behind, object_for, with_object};
-ghost use Rattle.row_edits.specs.Edit.{objects_behind, up_to_lacking, updated, overwritten, patched_at, patched, edited_to};
+ghost use Rattle.row_edits.specs.Edit.{objects_behind, up_to_lacking, updated, overwritten, patched_at, patched};
+ghost use Rattle.row_edits.specs.Edit.{edited_to};
 
 use crate::change::{ColumnValue, Edit, Patch, Value};
 use row_value::{
@@ -287,9 +289,9 @@ fn patched(
 }
 
 /// The content that an edit asks to be written, where these are the cells and objects that are shown of the row.
-/// Whether it fits the table is for `fits` to say: an update with a value of the wrong sort gives a content that doesn't
-/// fit just at that column. `Fit` where a patch names a column without an object, with length 0, or begins behind the
-/// object's end, with its length.
+/// Whether it fits the table is for `fits` to say: an update with a value of the wrong sort gives a content that
+/// doesn't fit just at that column. `Fit` where a patch names a column without an object, with length 0, or begins
+/// behind the object's end, with its length.
 pub fn edited(
     alloc: Global,
     schema: &Schema,

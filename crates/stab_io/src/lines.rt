@@ -44,7 +44,8 @@ impl Model for LineReader {
       limits = r.limits;
     } };
 
-    ghost invariant = { λ r. HasNoNewline r.line.items × (length r.line.items ≤ r.limits.line) × (r.used ≤ r.limits.input)
+    ghost invariant = { λ r. HasNoNewline r.line.items × (length r.line.items ≤ r.limits.line)
+        × (r.used ≤ r.limits.input)
         × (r.limits.line < 2 ^ 62) × (r.limits.input < 2 ^ 62) };
 }
 

@@ -92,7 +92,8 @@ abbrev pub Stops :
 Stops state images count pick old new = stops.Stops state images Fits HasSpare pending_of count pick old.inner new.inner
 
 -- the fuse of its disk is as new, and all else is as it was
-abbrev pub Renews : {D : Type 0} → (D → DiskState) → (D → ℕ → List ℕ → Type 0) → StatusLog (FuseDisk D) → StatusLog (FuseDisk D)
+abbrev pub Renews : {D : Type 0} → (D → DiskState) → (D → ℕ → List ℕ → Type 0) → StatusLog (FuseDisk D)
+    → StatusLog (FuseDisk D)
     → Type 0
 Renews state images old new = stops.Renews state images Fits HasSpare pending_of old.inner new.inner
 

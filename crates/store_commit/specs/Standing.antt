@@ -265,7 +265,8 @@ pub record Works {D T : Type 0} (state : D → DiskState) (images : D → ℕ �
   pub any_moment : DevsLeave state images old new (IsBeforeOrAfter (devs state old) w)
   pub rows_left : RowsLeave state images old new (IsEither (devs state old).held (changed_by (devs state old) w).held)
   -- a fuse that stops one of the first two calls of the write's disk leaves it undone, whatever a crash leaves
-  pub early : StopsWithin state (vault_at old (device_of w)) 2 → DevsLeave state images old new (λ d. d ≡ devs state old)
+  pub early : StopsWithin state (vault_at old (device_of w)) 2
+      → DevsLeave state images old new (λ d. d ≡ devs state old)
   -- one that stops one of its four calls stops the write
   pub stopped : StopsWithin state (vault_at old (device_of w)) 4 → OnOk result ⊥
   -- one that lets four calls pass stops none of them

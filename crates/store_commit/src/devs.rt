@@ -15,8 +15,10 @@ ghost use Rattle.store_commit.specs.Devs.{Write, OpenChunks, OpenRows, OpenLog, 
 ghost use Rattle.store_commit.specs.Devs.{CloseEntry, PutTable, PutSub, Devs};
 ghost use Rattle.store_commit.specs.Agenda.{Runs, IsMoment, IsRecovering, IsKeeping, IsKeepingWhole, IsStill};
 ghost use Rattle.store_commit.specs.Standing.{write_of, writes_of, AreUp, IsOneDown, IsReady, Works, WorksOn, devs};
-ghost use Rattle.store_commit.specs.Standing.{DevsLeave, RowsLeave, AreLookedAt, AreSound, AreSynced, AreBlank, HaveOpenings};
-ghost use Rattle.store_commit.specs.Standing.{all_stops, nothing, GoesOn, NothingHidden, NothingSpared, seen, spared_of};
+ghost use Rattle.store_commit.specs.Standing.{DevsLeave, RowsLeave, AreLookedAt, AreSound, AreSynced, AreBlank};
+ghost use Rattle.store_commit.specs.Standing.{HaveOpenings};
+ghost use Rattle.store_commit.specs.Standing.{all_stops, nothing, GoesOn, NothingHidden, NothingSpared, seen};
+ghost use Rattle.store_commit.specs.Standing.{spared_of};
 ghost use Rattle.store_commit.specs.Fused.{device_of, OthersStay, StayBeside};
 ghost use Rattle.store_commit.specs.Shows.{behind_first, ShowsAlike};
 ghost use Rattle.store_commit.specs.TakesOn.{AllLeave, NoneLeave};

@@ -24,10 +24,10 @@ use Rattle.step_tables.specs.Messages.{Response, Pulled, Header, Outcome, Messag
 use Rattle.step_tables.specs.Messages as messages
 use Rattle.step_tables.specs.Chunks.{is_named}
 use Rattle.step_tables.specs.ClientMoves as client
-use Rattle.step_tables.specs.ClientMoves.{Slots, TableDisk, RowPut, Plan, Placed, ClientDisk, ClientChange, ClientTask, Client, ClientMove, ClientStep, Shape, RowOut, slots_at, table_at, seen, client_step}
+use Rattle.step_tables.specs.ClientMoves.{Slots, TableDisk, TableChange, RowPut, Plan, Placed, ClientDisk, ClientChange, ClientTask, Client, ClientMove, ClientStep, Shape, RowOut, slots_at, table_at, seen, client_step}
 use Rattle.world_tables.specs.World.{is_client_down, is_fault, tasks_in}
 use Rattle.asked_laws.specs.Asked.{Asked, lets_resolve}
-use Rattle.asked_laws.proofs.Fine.{AreCalm, AreResolving, ArePlainFacts}
+use Rattle.asked_laws.proofs.Fine.{IsCalm, AreCalm, AreResolving, ArePlainFacts}
 
 abbrev pub has_none : Option (List ClientTask) → Bool
 has_none None = true
@@ -258,6 +258,23 @@ module _ (c : ℕ) (shape : Shape) (Q : List ClientTask → Type 0) (none : Q []
       → Begins Q d (has_none agenda) (client.next_step c shape d agenda table tears asks)
   next_fine None tasks table tears asks = (tt, refl, refl, refl, none)
   next_fine (Some agenda) tasks table tears asks = next_in_fine agenda tasks table tears asks (table_at (seen d) table)
+
+  altered_calm : (table : ℕ) (change : TableChange) → IsCalm c (client.told_of c table change)
+  altered_calm table (client.Opens schema) = tt
+  altered_calm table client.Closes = tt
+
+  alter_in_fine : (agenda : List ClientTask) → Q agenda → (table : ℕ) (change : TableChange) → Begins Q d false (client.alter_in c shape d agenda table change)
+  alter_in_fine (task ∷ more) tasks table change = (tt, refl, refl, refl, tasks)
+  alter_in_fine [] tasks table change = go (client.may_alter change (table_at (seen d) table))
+    where
+      go : (b : Bool) → Begins Q d false (if b then client.begun shape d facts.Done (client.alter_plan c d table change) [] else client.ignored d)
+      go true = begins Q shape d (client.alter_plan c d table change) [] (calm (client.alter_plan c d table change) [] (altered_calm table change, tt))
+      go false = (tt, refl, refl, refl, none)
+
+  pub alter_fine : (agenda : Option (List ClientTask)) → Q (tasks_in agenda) → (table : ℕ) (change : TableChange)
+      → Begins Q d (has_none agenda) (client.alter_step c shape d agenda table change)
+  alter_fine None tasks table change = (tt, refl, refl, refl, none)
+  alter_fine (Some agenda) tasks table change = alter_in_fine agenda tasks table change
 
   pub take_fine : (agenda : Option (List ClientTask)) → Q (tasks_in agenda) → (m : Message) → Begins Q d (has_none agenda) (client.take_step c shape d agenda m)
   take_fine None tasks m = (tt, refl, refl, refl, none)

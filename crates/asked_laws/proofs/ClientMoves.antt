@@ -7,7 +7,7 @@ use Rattle.step_tables.specs.ClientMoves.{Plan, ClientDisk, ClientTask, Client, 
 use Rattle.asked_laws.specs.Asked.{Asked, lets_resolve}
 use Rattle.asked_laws.proofs.Fine.{AreCalm, HasOnePlan, IsFinePlan, IsFineKept, IsFine}
 use Rattle.asked_laws.proofs.Plans.{planning_one, KeepsFine, plainly, crashed_fine, worked_fine, started_fine}
-use Rattle.asked_laws.proofs.Begins.{has_none, Begins, write_fine, edit_fine, show_fine, sum_fine, sync_fine, next_fine, take_fine, resolve_fine, phase_fine, conflicts_fine, all_fine}
+use Rattle.asked_laws.proofs.Begins.{has_none, Begins, write_fine, edit_fine, show_fine, sum_fine, sync_fine, next_fine, take_fine, resolve_fine, phase_fine, conflicts_fine, all_fine, alter_fine}
 
 -- a row that a move resolves, with this answer, was asked for
 abbrev pub WasAsked : Asked → ℕ → ClientMove → Answer → Type 0
@@ -37,6 +37,7 @@ module _ (a : Asked) (c : ℕ) (shape : Shape) (s : Client) (fine : IsFine a c s
   move_keeps (client.Resolve table row seen choice) was =
       begun_keeps _ (resolve_fine a c shape Q tt (λ p f. planning_one (IsFinePlan a c) shape p [] (inl f)) s.disk table row s.agenda fine.tasks seen choice was)
   move_keeps (client.ResolveAll table by) was = begun_keeps _ (all_fine shape Q tt s.disk s.agenda fine.tasks table by)
+  move_keeps (client.Alter table change) was = begun_keeps _ (alter_fine c shape Q tt calm s.disk s.agenda fine.tasks table change)
   move_keeps (client.Take m) was = begun_keeps _ (take_fine c shape Q tt calm s.disk s.agenda fine.tasks m)
   move_keeps (client.Work luck) was = worked_fine a c s.disk fine.plan s.agenda luck fine.tasks
   move_keeps (client.Crash luck) was = crashed_fine a c s.disk fine.plan s.agenda luck fine.tasks

@@ -1,22 +1,24 @@
 -- Every event tells as resolved only what was asked for, and so does every run.
 use Rattle.std.proofs.Common.{◌≡◌, ℕ, Bool, true, false, List, [], ◌∷◌, ◌++◌, length, Option, Some, None, refl, sym, ◌∙◌, subst, append-nil, map}
 use Rattle.std.specs.Prelude.{◌&&◌, ◌||◌, if◌then◌else◌}
+use Rattle.row_value.specs.declared.schema.Schema.{Schema}
 use Rattle.stab_base.specs.declared.node.Node.{Node}
 use Rattle.stab_base.specs.declared.node.Node.TheVariants as nodes
 use Rattle.table_model.specs.declared.event.Event.{Event}
 use Rattle.table_model.specs.declared.event.Event.TheVariants as events
+use Rattle.table_model.specs.declared.table_state.TableState.TheVariants as states
 use Rattle.step_tables.specs.Facts.{Answer, Refusal, Line, AnswerLine, EntryLine, PairLine}
 use Rattle.step_tables.specs.Facts as facts
-use Rattle.step_tables.specs.Messages.{Message, Luck, table_of}
+use Rattle.step_tables.specs.Messages.{Luck, table_of}
 use Rattle.step_tables.specs.Messages as messages
 use Rattle.step_tables.specs.StoreMoves as store
-use Rattle.step_tables.specs.StoreMoves.{StoreTask, StoreMove}
+use Rattle.step_tables.specs.StoreMoves.{SidePut, StoreTask, StoreMove}
 use Rattle.step_tables.specs.ClientMoves as client
 use Rattle.step_tables.specs.ClientMoves.{Client, ClientTask, ClientMove, Shape, client_step}
 use Rattle.world_tables.specs.World.{World, Packet, Hosted, Moved, WorldStep, owner_of, has_store, hosted_by, client_at, is_down, lines_of, lines_from, still, and_then, failing}
 use Rattle.world_tables.specs.World.{move_table, move_client, first_luck, other_lucks, client_tasks, client_until_idle, client_writes, client_starts, client_crashes, client_falls, client_follows_from, table_step}
 use Rattle.world_tables.specs.World.{store_falls, busy_table, write_next, store_until_idle, table_follows, store_crashes, store_starts, crash_luck, answering, answered, refused, unless_down}
-use Rattle.world_tables.specs.World.{call_there, call, listed}
+use Rattle.world_tables.specs.World.{call_there, call, listed, schema_at, puts_beside, opens, created, dropped}
 use Rattle.world_tables.specs.World.{take_read, take_at, to_hosted, to_there, carried, delivered, row_read, store_shows, chunk_names, history_lines, worked, all_worked, crashed, started, with_link, linked}
 use Rattle.world_laws.proofs.Calls.{call_is}
 use Rattle.world_tables.specs.Quiet.{answer_in, sent_in}
@@ -115,7 +117,7 @@ module _ (a : Asked) (w : World) (fine : AreFine a w) (event : Event) where
       → WasAsked (answered_asked event final a) c move (client_step c shape node move).answer)
       → (o : Option Client) → client_at w c ≡ o → StepGoes a w event (call_there w c move shape lucks o)
   call_goes c move shape lucks was o at =
-      call_is (λ (x : WorldStep). StepGoes a w event x) w c move shape lucks (λ r before. answered_goes (facts.Refuses r)) (unread_goes c) does o at
+      call_is (λ (x : WorldStep). StepGoes a w event x) w c move shape lucks (λ r before. answered_goes (facts.Refuses r)) (unread_goes c) (λ take. answered_goes facts.Done) does o at
     where
       does : (node : Client) → client_at w c ≡ Some node
           → StepGoes a w event (answering (client_step c shape node move).answer (and_then (move_client c move shape w) (client_follows_from node.agenda c (other_lucks lucks))))
@@ -134,32 +136,32 @@ module _ (a : Asked) (w : World) (fine : AreFine a w) (event : Event) where
 
   -- ---- deliveries
 
-  hosted_goes : (table : ℕ) (from : Node) (message : Message) (lucks : List Luck) (o : Option Hosted) → StepGoes a w event (to_hosted w table (store.Take from message) lucks o)
-  hosted_goes table from message lucks None = answered_goes facts.Done
-  hosted_goes table from message lucks (Some hosted) = go hosted.store.agenda
+  hosted_goes : (table : ℕ) (move : StoreMove) (lucks : List Luck) (o : Option Hosted) → StepGoes a w event (to_hosted w table move lucks o)
+  hosted_goes table move lucks None = answered_goes facts.Done
+  hosted_goes table move lucks (Some hosted) = go hosted.store.agenda
     where
-      first : (b : Asked) → AreFine b w → Goes b w.packets (move_table table (store.Take from message) w)
-      first b now = table_goes b w table (store.Take from message) now
+      first : (b : Asked) → AreFine b w → Goes b w.packets (move_table table move w)
+      first b now = table_goes b w table move now
 
-      alone : StepGoes a w event (answering (table_step w table hosted (store.Take from message)).answer (move_table table (store.Take from message) w))
-      alone = answering_goes a w event _ (move_table table (store.Take from message) w) (λ final. first (answered_asked event final a) (later final))
+      alone : StepGoes a w event (answering (table_step w table hosted move).answer (move_table table move w))
+      alone = answering_goes a w event _ (move_table table move w) (λ final. first (answered_asked event final a) (later final))
 
-      reads : (luck : Luck) → StepGoes a w event (take_read w table hosted (store.Take from message) (other_lucks lucks) luck)
+      reads : (luck : Luck) → StepGoes a w event (take_read w table hosted move (other_lucks lucks) luck)
       reads messages.FailedBefore = failed_goes (owner_of w table)
       reads messages.FailedAfter = failed_goes (owner_of w table)
       reads messages.Done =
-          answering_goes a w event (table_step w table hosted (store.Take from message)).answer
-          (and_then (move_table table (store.Take from message) w) (table_follows table (other_lucks lucks)))
-          (λ final. then_goes (answered_asked event final a) (move_table table (store.Take from message) w) (table_follows table (other_lucks lucks))
-          (first (answered_asked event final a) (later final)) (λ b now. table_follows_goes table (other_lucks lucks) b (move_table table (store.Take from message) w).world now))
+          answering_goes a w event (table_step w table hosted move).answer
+          (and_then (move_table table move w) (table_follows table (other_lucks lucks)))
+          (λ final. then_goes (answered_asked event final a) (move_table table move w) (table_follows table (other_lucks lucks))
+          (first (answered_asked event final a) (later final)) (λ b now. table_follows_goes table (other_lucks lucks) b (move_table table move w).world now))
 
-      go : (o : Option (List StoreTask)) → StepGoes a w event (take_at w table hosted (store.Take from message) lucks o)
+      go : (o : Option (List StoreTask)) → StepGoes a w event (take_at w table hosted move lucks o)
       go None = alone
       go (Some (task ∷ more)) = alone
       go (Some []) = reads (first_luck lucks)
 
   carried_goes : (p : Packet) (shape : Shape) (lucks : List Luck) (to : Node) → StepGoes a w event (carried w p shape lucks to)
-  carried_goes p shape lucks (nodes.Store number) = down_goes (nodes.Store number) _ (hosted_goes (table_of p.message) p.from p.message lucks (hosted_by w number (table_of p.message)))
+  carried_goes p shape lucks (nodes.Store number) = down_goes (nodes.Store number) _ (hosted_goes (table_of p.message) (store.Take p.from p.message) lucks (hosted_by w number (table_of p.message)))
   carried_goes p shape lucks (nodes.Gate gate) = answered_goes facts.Done
   carried_goes p shape lucks (nodes.Client c) = go (client_at w c) refl
     where
@@ -198,6 +200,25 @@ module _ (a : Asked) (w : World) (fine : AreFine a w) (event : Event) where
         sent = entries_sent table hosted.history [];
         packets = sym (append-nil w.packets);
       }
+
+  -- ---- tables that are made and dropped
+
+  puts_go : (number table : ℕ) (put : SidePut) (lucks : List Luck) → StepGoes a w event (puts_beside w number table put lucks)
+  puts_go number table put lucks = down_goes (nodes.Store number) _ (hosted_goes table (store.Place put) lucks (hosted_by w number table))
+
+  opens_go : (c table : ℕ) (shape : Shape) (lucks : List Luck) (o : Option Schema) → StepGoes a w event (opens w c table shape lucks o)
+  opens_go c table shape lucks None = answered_goes facts.Done
+  opens_go c table shape lucks (Some schema) = call_goes c (client.Alter table (client.Opens schema)) shape lucks (λ node final lets. tt) (client_at w c) refl
+
+  pub created_goes : (table : ℕ) (shape : Shape) (lucks : List Luck) (node : Node) → StepGoes a w event (created w table shape lucks node)
+  created_goes table shape lucks (nodes.Store number) = puts_go number table (store.PutState states.Live) lucks
+  created_goes table shape lucks (nodes.Client c) = opens_go c table shape lucks (schema_at w table)
+  created_goes table shape lucks (nodes.Gate gate) = answered_goes facts.Done
+
+  pub dropped_goes : (table : ℕ) (shape : Shape) (lucks : List Luck) (node : Node) → StepGoes a w event (dropped w table shape lucks node)
+  dropped_goes table shape lucks (nodes.Store number) = puts_go number table (store.PutState states.Dropped) lucks
+  dropped_goes table shape lucks (nodes.Client c) = call_goes c (client.Alter table client.Closes) shape lucks (λ node final lets. tt) (client_at w c) refl
+  dropped_goes table shape lucks (nodes.Gate gate) = answered_goes facts.Done
 
   -- ---- what is done to a node
 
@@ -277,7 +298,7 @@ module _ (a : Asked) (w : World) (fine : AreFine a w) (event : Event) where
 
   pub conflicts_go : (c table : ℕ) (shape : Shape) (lucks : List Luck) → StepGoes a w event (listed (call w c (client.Conflicts table) shape lucks))
   conflicts_go c table shape lucks =
-      call_is (λ (x : WorldStep). StepGoes a w event (listed x)) w c (client.Conflicts table) shape lucks (λ r before. answered_goes (facts.Refuses r)) (unread_goes c)
+      call_is (λ (x : WorldStep). StepGoes a w event (listed x)) w c (client.Conflicts table) shape lucks (λ r before. answered_goes (facts.Refuses r)) (unread_goes c) (λ take. answered_goes facts.Done)
       (λ node at. listed_goes (client_step c shape node (client.Conflicts table)).answer
       (and_then (move_client c (client.Conflicts table) shape w) (client_follows_from node.agenda c (other_lucks lucks)))
       (λ final. called_goes c (client.Conflicts table) shape (other_lucks lucks) (answered_asked event final a) (later final) node at tt)) (client_at w c) refl

@@ -11,7 +11,7 @@ use Rattle.step_tables.specs.ClientMoves.{Plan, ClientDisk, Client, ClientTask, 
 use Rattle.world_tables.specs.World.{World, Moved, client_at, is_client_down, is_fault, has_node, still, and_then, and_unless, failing, moved_client, move_there, move_client, first_luck, other_lucks}
 use Rattle.world_tables.specs.World.{client_works, client_tasks, client_until_idle, client_follows, client_follows_from, client_writes, gets_tasks, client_falls, chosen_of, first_shape, other_shapes, plan_size, resolve_by, resolve_each}
 use Rattle.asked_laws.specs.Phases.{is_away}
-use Rattle.asked_laws.proofs.Begins.{has_none, Begins, write_fine, edit_fine, show_fine, sum_fine, sync_fine, next_fine, take_fine, resolve_fine, phase_fine, conflicts_fine, all_fine}
+use Rattle.asked_laws.proofs.Begins.{has_none, Begins, write_fine, edit_fine, show_fine, sum_fine, sync_fine, next_fine, take_fine, resolve_fine, phase_fine, conflicts_fine, all_fine, alter_fine}
 use Rattle.asked_laws.proofs.Phases.{moved_down}
 
 -- ---- a step that fails leaves its client down, and any other leaves it so where it was
@@ -67,6 +67,7 @@ move_steady c shape node (client.EndCr table) is = begun_steady node _ (phase_fi
 move_steady c shape node (client.Resolve table row version choice) is =
     begun_steady node _ (resolve_fine (λ q t r. true) c shape Any tt (λ p f. tt) node.disk table row node.agenda tt version choice (λ lets. refl))
 move_steady c shape node (client.ResolveAll table by) is = begun_steady node _ (all_fine shape Any tt node.disk node.agenda tt table by)
+move_steady c shape node (client.Alter table change) is = begun_steady node _ (alter_fine c shape Any tt (λ p sends f. tt) node.disk node.agenda tt table change)
 move_steady c shape node (client.Take m) is = begun_steady node _ (take_fine c shape Any tt (λ p sends f. tt) node.disk node.agenda tt m)
 move_steady c shape node (client.Work luck) is = work_steady node.disk node.agenda luck
 move_steady c shape node (client.Crash luck) is = absurd is

@@ -109,6 +109,8 @@ module _ (c : ℕ) (a b : Asked) (keeps : Keeps c a b) where
       one (facts.Refused client number table row latest) f = tt
       one (facts.New client table row version) f = tt
       one (facts.Position client table position) f = tt
+      one (facts.Opened client table) f = tt
+      one (facts.Dropped client table) f = tt
 
   plan_on : (p : Plan) → IsFinePlan a c p → IsFinePlan b c p
   plan_on p (inl f) = inl (resolving_on p.facts f)
@@ -166,6 +168,8 @@ module _ (c : ℕ) (tell : ClientFact → Fact) (same : (fact : ClientFact) → 
       one (facts.Refused client number table row latest) f = (tt, refl)
       one (facts.New client table row version) f = (tt, refl)
       one (facts.Position client table position) f = (tt, refl)
+      one (facts.Opened client table) f = (tt, refl)
+      one (facts.Dropped client table) f = (tt, refl)
 
   -- a calm one resolves nothing, and tells conflicts of its client alone
   calm_told : (a : Asked) (some : List ClientFact) → AreCalm c some → FactsAsked a (map tell some) × AreOthersKept c a (facts_asked (map tell some) a)
@@ -186,6 +190,8 @@ module _ (c : ℕ) (tell : ClientFact → Fact) (same : (fact : ClientFact) → 
       one (facts.Refused client number table row latest) f = (tt, others_kept c a)
       one (facts.New client table row version) f = (tt, others_kept c a)
       one (facts.Position client table position) f = (tt, others_kept c a)
+      one (facts.Opened client table) f = (tt, others_kept c a)
+      one (facts.Dropped client table) f = (tt, others_kept c a)
 
   plan_told : (a : Asked) (p : Plan) → IsFinePlan a c p → IsTold c a (map tell p.facts) p
   plan_told a p (inl f) = let t = resolving_told a p.facts f in record {
@@ -217,6 +223,8 @@ plain_told a (fact ∷ more) f = one (plain_told a more f.1) fact f.0
     one rest (facts.Forward table entry) f = ((tt, rest.0), rest.1)
     one rest (facts.Back table version) f = ((tt, rest.0), rest.1)
     one rest (facts.StoreRecovered store table) f = ((tt, rest.0), rest.1)
+    one rest (facts.Made table) f = ((tt, rest.0), rest.1)
+    one rest (facts.Unmade table) f = ((tt, rest.0), rest.1)
     one rest (facts.ClientRecovered number) f = ((tt, rest.0), rest.1)
     one rest (facts.Torn number table row) f = ((tt, rest.0), rest.1)
     one rest (facts.Sent packet from to name) f = absurd f
@@ -234,6 +242,8 @@ plain_unsent (fact ∷ more) f = one (plain_unsent more f.1) fact f.0
     one rest (facts.Forward table entry) f = (tt, rest)
     one rest (facts.Back table version) f = (tt, rest)
     one rest (facts.StoreRecovered store table) f = (tt, rest)
+    one rest (facts.Made table) f = (tt, rest)
+    one rest (facts.Unmade table) f = (tt, rest)
     one rest (facts.ClientRecovered number) f = (tt, rest)
     one rest (facts.Torn number table row) f = (tt, rest)
     one rest (facts.Sent packet from to name) f = absurd f

@@ -7,13 +7,15 @@ use Rattle.stab_base.specs.declared.node.Node.TheVariants as nodes
 use Rattle.row_value.specs.declared.schema.Schema.{Schema}
 use Rattle.table_model.specs.declared.event.Event.{Event}
 use Rattle.table_model.specs.declared.event.Event.TheVariants as events
+use Rattle.table_model.specs.declared.table_state.TableState.{TableState}
+use Rattle.table_model.specs.declared.table_state.TableState.TheVariants as states
 use Rattle.conflicts.specs.declared.stored.Stored as resolvers
 use Rattle.step_tables.specs.Facts.{Answer, Refusal}
 use Rattle.step_tables.specs.Facts as facts
-use Rattle.step_tables.specs.Messages.{Message, Luck, table_of}
+use Rattle.step_tables.specs.Messages.{Luck, table_of}
 use Rattle.step_tables.specs.Messages as messages
 use Rattle.step_tables.specs.StoreMoves as store
-use Rattle.step_tables.specs.StoreMoves.{StoreTask}
+use Rattle.step_tables.specs.StoreMoves.{SidePut, StoreTask, StoreMove}
 use Rattle.step_tables.specs.ClientMoves as client
 use Rattle.step_tables.specs.ClientMoves.{TableDisk, ClientDisk, Client, ClientTask, ClientMove, ClientStep, Shape, no_shape, table_at, seen, client_step, phases_by}
 use Rattle.world_tables.specs.World.{World, Packet, Hosted, WorldStep, Lucks, owner_of, has_store, hosted_at, hosted_by, client_at, is_client_down, is_down, is_resolving, still, and_then, with_store}
@@ -21,7 +23,7 @@ use Rattle.world_tables.specs.World.{move_table, moved_client, move_there, move_
 use Rattle.world_tables.specs.World.{store_falls, busy_table, crash_luck, answering, answered, refused, unless_down, made_with, declared, open_all, new_client}
 use Rattle.world_tables.specs.World.{first_agenda, joined, call_there, call, listed}
 use Rattle.world_tables.specs.World.{client_pairs, resolve_all, take_read, take_at, to_hosted, to_there, carried, delivered, row_read, store_shows, chunk_names, history_lines, worked, all_worked, crashed, started, with_link, linked, step, table_follows}
-use Rattle.world_tables.specs.World.{store_starts, without_node}
+use Rattle.world_tables.specs.World.{store_starts, without_node, schema_at, puts_beside, opens, created, dropped}
 use Rattle.world_laws.proofs.Looks.{look_cases}
 use Rattle.world_laws.proofs.Calls.{call_is}
 use Rattle.asked_laws.specs.Phases.{is_away, phase_by}
@@ -62,7 +64,7 @@ module _ (c t : ℕ) (w : World) (is : IsClosed c t w) where
 
   call_kept : (d : ℕ) (move : ClientMove) (shape : Shape) (lucks : List Luck) → IsPlainMove move → (o : Option Client) → client_at w d ≡ o → Kept (call_there w d move shape lucks o).world
   call_kept d move shape lucks plain o at =
-      call_is (λ (x : WorldStep). Kept x.world) w d move shape lucks (λ r before. kept) (fallen_kept d) (λ node there. moved_kept d move shape (other_lucks lucks) node plain) o at
+      call_is (λ (x : WorldStep). Kept x.world) w d move shape lucks (λ r before. kept) (fallen_kept d) (λ take. kept) (λ node there. moved_kept d move shape (other_lucks lucks) node plain) o at
 
   listed_kept : (s : WorldStep) → Kept s.world → Kept (listed s).world
   listed_kept s there = go s.answer
@@ -94,30 +96,30 @@ module _ (c t : ℕ) (w : World) (is : IsClosed c t w) where
       go (Some (facts.Pairs some)) = there
       go (Some (facts.Refuses r)) = there
 
-  hosted_kept : (table : ℕ) (from : Node) (message : Message) (lucks : List Luck) (o : Option Hosted) → Kept (to_hosted w table (store.Take from message) lucks o).world
-  hosted_kept table from message lucks None = kept
-  hosted_kept table from message lucks (Some hosted) = go hosted.store.agenda
+  hosted_kept : (table : ℕ) (move : StoreMove) (lucks : List Luck) (o : Option Hosted) → Kept (to_hosted w table move lucks o).world
+  hosted_kept table move lucks None = kept
+  hosted_kept table move lucks (Some hosted) = go hosted.store.agenda
     where
       v : World
-      v = (move_table table (store.Take from message) w).world
+      v = (move_table table move w).world
 
       first : Kept v
-      first = same_keeps c t w v is (table_same table (store.Take from message) w)
+      first = same_keeps c t w v is (table_same table move w)
 
-      reads : (luck : Luck) → Kept (take_read w table hosted (store.Take from message) (other_lucks lucks) luck).world
+      reads : (luck : Luck) → Kept (take_read w table hosted move (other_lucks lucks) luck).world
       reads messages.FailedBefore = store_fallen (owner_of w table)
       reads messages.FailedAfter = store_fallen (owner_of w table)
       reads messages.Done =
           let x : World = (table_follows table (other_lucks lucks) v).world in
-          same_keeps c t w x is (then_same w v x (table_same table (store.Take from message) w) (table_follows_same table (other_lucks lucks) v))
+          same_keeps c t w x is (then_same w v x (table_same table move w) (table_follows_same table (other_lucks lucks) v))
 
-      go : (o : Option (List StoreTask)) → Kept (take_at w table hosted (store.Take from message) lucks o).world
+      go : (o : Option (List StoreTask)) → Kept (take_at w table hosted move lucks o).world
       go None = first
       go (Some (task ∷ more)) = first
       go (Some []) = reads (first_luck lucks)
 
   carried_kept : (p : Packet) (shape : Shape) (lucks : List Luck) (to : Node) → Kept (carried w p shape lucks to).world
-  carried_kept p shape lucks (nodes.Store number) = down_kept (nodes.Store number) _ (hosted_kept (table_of p.message) p.from p.message lucks (hosted_by w number (table_of p.message)))
+  carried_kept p shape lucks (nodes.Store number) = down_kept (nodes.Store number) _ (hosted_kept (table_of p.message) (store.Take p.from p.message) lucks (hosted_by w number (table_of p.message)))
   carried_kept p shape lucks (nodes.Gate gate) = kept
   carried_kept p shape lucks (nodes.Client d) = go (client_at w d) refl
     where
@@ -154,6 +156,23 @@ module _ (c t : ℕ) (w : World) (is : IsClosed c t w) where
       moved true = same_keeps c t w (with_link d true w) is (refl, refl)
       moved false = same_keeps c t w (with_link d false w) is (refl, refl)
 
+  puts_kept : (number table : ℕ) (put : SidePut) (lucks : List Luck) → Kept (puts_beside w number table put lucks).world
+  puts_kept number table put lucks = down_kept (nodes.Store number) _ (hosted_kept table (store.Place put) lucks (hosted_by w number table))
+
+  opens_kept : (d table : ℕ) (shape : Shape) (lucks : List Luck) (o : Option Schema) → Kept (opens w d table shape lucks o).world
+  opens_kept d table shape lucks None = kept
+  opens_kept d table shape lucks (Some schema) = call_kept d (client.Alter table (client.Opens schema)) shape lucks tt (client_at w d) refl
+
+  created_kept : (table : ℕ) (shape : Shape) (lucks : List Luck) (node : Node) → Kept (created w table shape lucks node).world
+  created_kept table shape lucks (nodes.Store number) = puts_kept number table (store.PutState states.Live) lucks
+  created_kept table shape lucks (nodes.Client d) = opens_kept d table shape lucks (schema_at w table)
+  created_kept table shape lucks (nodes.Gate gate) = kept
+
+  dropped_kept : (table : ℕ) (shape : Shape) (lucks : List Luck) (node : Node) → Kept (dropped w table shape lucks node).world
+  dropped_kept table shape lucks (nodes.Store number) = puts_kept number table (store.PutState states.Dropped) lucks
+  dropped_kept table shape lucks (nodes.Client d) = call_kept d (client.Alter table client.Closes) shape lucks tt (client_at w d) refl
+  dropped_kept table shape lucks (nodes.Gate gate) = kept
+
   worked_kept : (lucks : List Luck) (node : Node) → Kept (worked w lucks node).world
   worked_kept lucks (nodes.Store number) = same_keeps c t w _ is (write_same number (first_luck lucks) (busy_table w number) w)
   worked_kept lucks (nodes.Client d) = client_writes_keep c t d (first_luck lucks) (client_tasks (client_at w d)) w is
@@ -169,14 +188,14 @@ module _ (c t : ℕ) (w : World) (is : IsClosed c t w) where
   crashed_kept calls lucks (nodes.Client d) = client_keeps c t w d (client.Crash (crash_luck calls (other_lucks lucks) (first_luck lucks))) no_shape tt is
   crashed_kept calls lucks (nodes.Gate gate) = kept
 
-  declared_kept : (table : ℕ) (schema : Schema) (luck : Luck) (o : Option Hosted) → Kept (declared w table schema luck o)
-  declared_kept table schema luck (Some hosted) = kept
-  declared_kept table schema luck None = go luck
+  declared_kept : (table : ℕ) (schema : Schema) (state : TableState) (luck : Luck) (o : Option Hosted) → Kept (declared w table schema state luck o)
+  declared_kept table schema state luck (Some hosted) = kept
+  declared_kept table schema state luck None = go luck
     where
-      go : (x : Luck) → Kept (made_with w table schema x)
-      go messages.Done = same_keeps c t w (made_with w table schema messages.Done) is (refl, refl)
-      go messages.FailedBefore = same_keeps c t w (made_with w table schema messages.FailedBefore) is (refl, refl)
-      go messages.FailedAfter = same_keeps c t w (made_with w table schema messages.FailedAfter) is (refl, refl)
+      go : (x : Luck) → Kept (made_with w table schema state x)
+      go messages.Done = same_keeps c t w (made_with w table schema state messages.Done) is (refl, refl)
+      go messages.FailedBefore = same_keeps c t w (made_with w table schema state messages.FailedBefore) is (refl, refl)
+      go messages.FailedAfter = same_keeps c t w (made_with w table schema state messages.FailedAfter) is (refl, refl)
 
   -- ---- what an event makes of the phase
 
@@ -371,7 +390,7 @@ module _ (c t : ℕ) (w : World) (is : IsClosed c t w) where
 
   begin_is : (d table : ℕ) (shape : Shape) (lucks : List Luck) → StepIs (events.BeginCr d table) (call w d (client.BeginCr table) shape lucks)
   begin_is d table shape lucks =
-      call_is (λ (x : WorldStep). StepIs (events.BeginCr d table) x) w d (client.BeginCr table) shape lucks (λ r before. kept_is w kept) (kept_is _ (fallen_kept d))
+      call_is (λ (x : WorldStep). StepIs (events.BeginCr d table) x) w d (client.BeginCr table) shape lucks (λ r before. kept_is w kept) (kept_is _ (fallen_kept d)) (λ take. absurd take)
       (λ node at. subst (λ (o : Option Client). StepIs (events.BeginCr d table)
       (answering (client_step d shape node (client.BeginCr table)).answer (and_then (move_there w d (client.BeginCr table) shape o) (client_follows_from node.agenda d (other_lucks lucks))))) (sym at)
       (does d table (events.BeginCr d table) (client.BeginCr table) phase node.disk node.agenda (other_lucks lucks))) (client_at w d) refl
@@ -381,7 +400,7 @@ module _ (c t : ℕ) (w : World) (is : IsClosed c t w) where
 
   end_is : (d table : ℕ) (shape : Shape) (lucks : List Luck) → StepIs (events.EndCr d table) (call w d (client.EndCr table) shape lucks)
   end_is d table shape lucks =
-      call_is (λ (x : WorldStep). StepIs (events.EndCr d table) x) w d (client.EndCr table) shape lucks (λ r before. kept_is w kept) (kept_is _ (fallen_kept d))
+      call_is (λ (x : WorldStep). StepIs (events.EndCr d table) x) w d (client.EndCr table) shape lucks (λ r before. kept_is w kept) (kept_is _ (fallen_kept d)) (λ take. absurd take)
       (λ node at. subst (λ (o : Option Client). StepIs (events.EndCr d table)
       (answering (client_step d shape node (client.EndCr table)).answer (and_then (move_there w d (client.EndCr table) shape o) (client_follows_from node.agenda d (other_lucks lucks))))) (sym at)
       (does d table (events.EndCr d table) (client.EndCr table) phase node.disk node.agenda (other_lucks lucks))) (client_at w d) refl
@@ -394,11 +413,14 @@ module _ (c t : ℕ) (w : World) (is : IsClosed c t w) where
   pub step_is : (event : Event) (lucks : Lucks) → StepIs event (step w event lucks)
   step_is (events.Store number) lucks = kept_is (with_store number w) (same_keeps c t w (with_store number w) is (refl, refl))
   step_is (events.Gate number) lucks = kept_is w (same_keeps c t w w is (refl, refl))
-  step_is (events.Table table schema) lucks = kept_is _ (declared_kept table schema (first_luck lucks.calls) (hosted_at w table))
+  step_is (events.Table table schema) lucks = kept_is _ (declared_kept table schema states.Live (first_luck lucks.calls) (hosted_at w table))
+  step_is (events.Draft table schema) lucks = kept_is _ (declared_kept table schema states.Draft (first_luck lucks.calls) (hosted_at w table))
   step_is (events.Client d gate tables) lucks = joined_is d gate tables (first_luck lucks.calls) (client_at w d) refl
   step_is (events.Write d table row x) lucks = kept_is _ (call_kept d (client.Write table row x) lucks.shape lucks.calls tt (client_at w d) refl)
   step_is (events.Edit d table row x) lucks = kept_is _ (call_kept d (client.Change table row x) lucks.shape lucks.calls tt (client_at w d) refl)
   step_is (events.Link d up) lucks = kept_is _ (linked_kept d up (client_at w d))
+  step_is (events.Create node table) lucks = kept_is _ (created_kept table lucks.shape lucks.calls node)
+  step_is (events.Drop node table) lucks = kept_is _ (dropped_kept table lucks.shape lucks.calls node)
   step_is (events.Show d table row) lucks = kept_is _ (call_kept d (client.Show table row) lucks.shape lucks.calls tt (client_at w d) refl)
   step_is (events.Sum d table row) lucks = kept_is _ (call_kept d (client.Sum table row) lucks.shape lucks.calls tt (client_at w d) refl)
   step_is (events.Sync d table) lucks = kept_is _ (call_kept d (client.Sync table) lucks.shape lucks.calls tt (client_at w d) refl)

@@ -5,20 +5,22 @@ use Rattle.stab_base.specs.declared.node.Node.TheVariants as nodes
 use Rattle.row_value.specs.declared.schema.Schema.{Schema}
 use Rattle.table_model.specs.declared.event.Event.{Event}
 use Rattle.table_model.specs.declared.event.Event.TheVariants as events
+use Rattle.table_model.specs.declared.table_state.TableState.{TableState}
+use Rattle.table_model.specs.declared.table_state.TableState.TheVariants as states
 use Rattle.conflicts.specs.declared.stored.Stored as resolvers
 use Rattle.step_tables.specs.Facts.{Answer, Refusal}
 use Rattle.step_tables.specs.Facts as facts
-use Rattle.step_tables.specs.Messages.{Message, Luck, table_of}
+use Rattle.step_tables.specs.Messages.{Luck, table_of}
 use Rattle.step_tables.specs.Messages as messages
 use Rattle.step_tables.specs.StoreMoves as store
-use Rattle.step_tables.specs.StoreMoves.{StoreTask}
+use Rattle.step_tables.specs.StoreMoves.{SidePut, StoreTask, StoreMove}
 use Rattle.step_tables.specs.ClientMoves as client
 use Rattle.step_tables.specs.ClientMoves.{TableDisk, ClientDisk, Client, ClientTask, ClientMove, ClientStep, Shape, no_shape, table_at, seen, client_step, phases_by}
 use Rattle.world_tables.specs.World.{World, Packet, Hosted, WorldStep, Lucks, start, owner_of, has_store, hosted_at, hosted_by, client_at, is_client_down, is_down, is_resolving, and_then, with_store}
 use Rattle.world_tables.specs.World.{move_table, move_there, move_client, first_luck, other_lucks, client_tasks, client_follows, client_follows_from, starts_by, client_starts, client_falls}
 use Rattle.world_tables.specs.World.{busy_table, crash_luck, answering, answered, refused, unless_down, made_with, declared, open_all, new_client, first_agenda, joined, call_there, call, listed}
 use Rattle.world_tables.specs.World.{client_pairs, resolve_all, take_read, take_at, to_hosted, to_there, carried, delivered, row_read, store_shows, chunk_names, history_lines, worked, all_worked, crashed, started, with_link, linked, step, table_follows}
-use Rattle.world_tables.specs.World.{store_starts, without_node}
+use Rattle.world_tables.specs.World.{store_starts, without_node, schema_at, puts_beside, opens, created, dropped}
 use Rattle.world_tables.specs.Turns.{Happening, world_from}
 use Rattle.world_laws.proofs.Looks.{look_cases}
 use Rattle.std.proofs.Common.{◌≡◌, ◌≢◌, ⊎_elim, ℕ, Bool, true, false, List, [], ◌∷◌, ◌++◌, Option, Some, None, refl, sym, ◌∙◌, ap, subst, arith, true≢false}
@@ -29,6 +31,7 @@ use Rattle.std.specs.Ordering.{nat_cmp}
 use Rattle.std.specs.Map.{lookup}
 use Rattle.std.specs.BTreeMap.{is_at}
 use Rattle.world_tables.specs.World.{failing, without_node, Moved, client_writes, resolve_each, is_fault, is_cut, reads, calls, unless_cut, unless_kept, and_then, client_until_idle, lines_of}
+use Rattle.world_tables.specs.World.{table_of_move, is_closed, idle_answer, closed_answer, unless_closed}
 use Rattle.world_tables.specs.Turns.{turns, turns_from}
 use Rattle.world_tables.specs.Quiet.{sent_in}
 use Rattle.world_laws.proofs.Calls.{call_is}
@@ -60,7 +63,7 @@ kept_no_fault phase (client.ResolveAll table by) answer r is = in_phase (not (ph
 kept_no_fault phase other answer r is = absurd cc
 
 module _ (P : WorldStep → Type 0) (w : World) (c : ℕ) (move : ClientMove) (shape : Shape) (lucks : List Luck)
-    (refuses : (r : Refusal) → is_fault (facts.Refuses r) ≡ false → P (refused w r)) (unread : P (answering facts.Done (failing (client_falls c w))))
+    (refuses : (r : Refusal) → is_fault (facts.Refuses r) ≡ false → P (refused w r)) (ignores : P (answered w facts.Done)) (unread : P (answering facts.Done (failing (client_falls c w))))
     (does : (node : Client) → client_at w c ≡ Some node → P (calls w c move shape (other_lucks lucks) node)) where
   call_cases : (o : Option Client) → client_at w c ≡ o → P (call_there w c move shape lucks o)
   call_cases None at = refuses facts.NoTable refl
@@ -78,14 +81,31 @@ module _ (P : WorldStep → Type 0) (w : World) (c : ℕ) (move : ClientMove) (s
       by_phase None is = by_link (is_cut w c && is_cut_off c shape node move)
       by_phase (Some r) is = refuses r (kept_no_fault (is_resolving w c) move (client_step c shape node move).answer r is)
 
-      by_read : (luck : Luck)
-          → P (reads w c luck (unless_kept w kept (unless_cut w (is_cut w c && is_cut_off c shape node move) (calls w c move shape (other_lucks lucks) node))))
-      by_read messages.Done = by_phase kept refl
+      idle : (agenda : Option (List ClientTask)) → P (answered w (idle_answer shape agenda))
+      idle None = ignores
+      idle (Some []) = ignores
+      idle (Some (task ∷ more)) = refuses (facts.Busy shape.plan) refl
+
+      -- at a closed table
+      closed : (x : ClientMove) (cut : Bool) → P (answered w (closed_answer shape cut node.agenda x))
+      closed (client.Take message) true = refuses facts.Offline refl
+      closed (client.Take message) false = idle node.agenda
+      closed other cut = refuses facts.NoTable refl
+
+      rest : WorldStep
+      rest = unless_kept w kept (unless_cut w (is_cut w c && is_cut_off c shape node move) (calls w c move shape (other_lucks lucks) node))
+
+      by_table : (b : Bool) → P (unless_closed w b (closed_answer shape (is_cut w c) node.agenda move) rest)
+      by_table true = closed move (is_cut w c)
+      by_table false = by_phase kept refl
+
+      by_read : (luck : Luck) → P (reads w c luck (unless_closed w (is_closed node (table_of_move move)) (closed_answer shape (is_cut w c) node.agenda move) rest))
+      by_read messages.Done = by_table (is_closed node (table_of_move move))
       by_read messages.FailedBefore = unread
       by_read messages.FailedAfter = unread
 
       by_down : (down : Bool) → P (if down then refused w (facts.NodeDown (nodes.Client c)) else reads w c (first_luck lucks)
-          (unless_kept w kept (unless_cut w (is_cut w c && is_cut_off c shape node move) (calls w c move shape (other_lucks lucks) node))))
+          (unless_closed w (is_closed node (table_of_move move)) (closed_answer shape (is_cut w c) node.agenda move) rest))
       by_down true = refuses (facts.NodeDown (nodes.Client c)) refl
       by_down false = by_read (first_luck lucks)
 
@@ -135,7 +155,7 @@ module _ (c : ℕ) (w : World) where
       → Tells (call_there w d move shape lucks o).world (has_fault (call_there w d move shape lucks o).answer && d == c)
   call_tells d move shape lucks is o at =
       call_cases (λ (x : WorldStep). Tells x.world (has_fault x.answer && d == c)) w d move shape lucks
-      (λ r none. none_tells w (is_fault (facts.Refuses r) && d == c) (ap (λ (x : Bool). x && d == c) none) refl)
+      (λ r none. none_tells w (is_fault (facts.Refuses r) && d == c) (ap (λ (x : Bool). x && d == c) none) refl) (same_tells w refl)
       (answering_tells d facts.Done (failing (client_falls d w)) (falls_tracks c d w) (λ e. absurd (true≢false e)))
       (λ node there. answering_tells d (client_step d shape node move).answer (and_then (move_client d move shape w) (client_follows_from node.agenda d (other_lucks lucks)))
       (then_tracks c d w (move_client d move shape w) (client_follows_from node.agenda d (other_lucks lucks)) (move_tracks c d w move shape is)
@@ -188,29 +208,29 @@ module _ (c : ℕ) (w : World) where
       go true = (refl, refl)
       go false = p
 
-  hosted_same : (table : ℕ) (from : Node) (message : Message) (lucks : List Luck) (o : Option Hosted) → SameSide w (to_hosted w table (store.Take from message) lucks o).world
-  hosted_same table from message lucks None = (refl, refl)
-  hosted_same table from message lucks (Some hosted) = go hosted.store.agenda
+  hosted_same : (table : ℕ) (move : StoreMove) (lucks : List Luck) (o : Option Hosted) → SameSide w (to_hosted w table move lucks o).world
+  hosted_same table move lucks None = (refl, refl)
+  hosted_same table move lucks (Some hosted) = go hosted.store.agenda
     where
       v : World
-      v = (move_table table (store.Take from message) w).world
+      v = (move_table table move w).world
 
-      reads_same : (luck : Luck) → SameSide w (take_read w table hosted (store.Take from message) (other_lucks lucks) luck).world
+      reads_same : (luck : Luck) → SameSide w (take_read w table hosted move (other_lucks lucks) luck).world
       reads_same messages.FailedBefore = store_falls_same (owner_of w table) w
       reads_same messages.FailedAfter = store_falls_same (owner_of w table) w
       reads_same messages.Done =
-          then_same w v (table_follows table (other_lucks lucks) v).world (table_same table (store.Take from message) w) (table_follows_same table (other_lucks lucks) v)
+          then_same w v (table_follows table (other_lucks lucks) v).world (table_same table move w) (table_follows_same table (other_lucks lucks) v)
 
-      go : (o : Option (List StoreTask)) → SameSide w (take_at w table hosted (store.Take from message) lucks o).world
-      go None = table_same table (store.Take from message) w
-      go (Some (task ∷ more)) = table_same table (store.Take from message) w
+      go : (o : Option (List StoreTask)) → SameSide w (take_at w table hosted move lucks o).world
+      go None = table_same table move w
+      go (Some (task ∷ more)) = table_same table move w
       go (Some []) = reads_same (first_luck lucks)
 
   carried_tells : (p : Packet) (shape : Shape) (lucks : List Luck) (to : Node)
       → Tells (carried w p shape lucks to).world (has_fault (carried w p shape lucks to).answer && is_client c to)
   carried_tells p shape lucks (nodes.Store number) =
       side_tells (carried w p shape lucks (nodes.Store number)).world _
-      (down_same (nodes.Store number) _ (hosted_same (table_of p.message) p.from p.message lucks (hosted_by w number (table_of p.message))))
+      (down_same (nodes.Store number) _ (hosted_same (table_of p.message) (store.Take p.from p.message) lucks (hosted_by w number (table_of p.message))))
   carried_tells p shape lucks (nodes.Gate gate) = side_tells w false (refl, refl)
   carried_tells p shape lucks (nodes.Client d) = go (client_at w d) refl
     where
@@ -250,14 +270,40 @@ module _ (c : ℕ) (w : World) where
       moved true = (refl, refl)
       moved false = (refl, refl)
 
-  declared_same : (table : ℕ) (schema : Schema) (luck : Luck) (o : Option Hosted) → SameSide w (declared w table schema luck o)
-  declared_same table schema luck (Some hosted) = (refl, refl)
-  declared_same table schema luck None = go luck
+  declared_same : (table : ℕ) (schema : Schema) (state : TableState) (luck : Luck) (o : Option Hosted) → SameSide w (declared w table schema state luck o)
+  declared_same table schema state luck (Some hosted) = (refl, refl)
+  declared_same table schema state luck None = go luck
     where
-      go : (x : Luck) → SameSide w (made_with w table schema x)
+      go : (x : Luck) → SameSide w (made_with w table schema state x)
       go messages.Done = (refl, refl)
       go messages.FailedBefore = (refl, refl)
       go messages.FailedAfter = (refl, refl)
+
+  declared_tells : (table : ℕ) (schema : Schema) (state : TableState) (luck : Luck) (o : Option Hosted) → Tells (declared w table schema state luck o) false
+  declared_tells table schema state luck o = let v : World = declared w table schema state luck o in same_tells v (side_away v (declared_same table schema state luck o))
+
+  -- ---- tables that are made and dropped
+
+  puts_tell : (number table : ℕ) (put : SidePut) (lucks : List Luck) (x : Bool) → Tells (puts_beside w number table put lucks).world (x && false)
+  puts_tell number table put lucks x =
+      side_tells (puts_beside w number table put lucks).world x (down_same (nodes.Store number) _ (hosted_same table (store.Place put) lucks (hosted_by w number table)))
+
+  opens_tell : (d table : ℕ) (shape : Shape) (lucks : List Luck) (o : Option Schema)
+      → Tells (opens w d table shape lucks o).world (has_fault (opens w d table shape lucks o).answer && d == c)
+  opens_tell d table shape lucks None = same_tells w refl
+  opens_tell d table shape lucks (Some schema) = call_tells d (client.Alter table (client.Opens schema)) shape lucks tt (client_at w d) refl
+
+  created_tells : (table : ℕ) (shape : Shape) (lucks : List Luck) (node : Node)
+      → Tells (created w table shape lucks node).world (has_fault (created w table shape lucks node).answer && is_client c node)
+  created_tells table shape lucks (nodes.Store number) = puts_tell number table (store.PutState states.Live) lucks _
+  created_tells table shape lucks (nodes.Client d) = opens_tell d table shape lucks (schema_at w table)
+  created_tells table shape lucks (nodes.Gate gate) = same_tells w refl
+
+  dropped_tells : (table : ℕ) (shape : Shape) (lucks : List Luck) (node : Node)
+      → Tells (dropped w table shape lucks node).world (has_fault (dropped w table shape lucks node).answer && is_client c node)
+  dropped_tells table shape lucks (nodes.Store number) = puts_tell number table (store.PutState states.Dropped) lucks _
+  dropped_tells table shape lucks (nodes.Client d) = call_tells d (client.Alter table client.Closes) shape lucks tt (client_at w d) refl
+  dropped_tells table shape lucks (nodes.Gate gate) = same_tells w refl
 
   -- ---- what is done to a node
 
@@ -356,12 +402,14 @@ module _ (c : ℕ) (w : World) where
     step_tells : (event : Event) (lucks : Lucks) → Tells (step w event lucks).world (goes_down c sent event (step w event lucks).answer)
     step_tells (events.Store number) lucks = same_tells (with_store number w) refl
     step_tells (events.Gate number) lucks = same_tells w refl
-    step_tells (events.Table table schema) lucks =
-        let v : World = declared w table schema (first_luck lucks.calls) (hosted_at w table) in same_tells v (side_away v (declared_same table schema (first_luck lucks.calls) (hosted_at w table)))
+    step_tells (events.Table table schema) lucks = declared_tells table schema states.Live (first_luck lucks.calls) (hosted_at w table)
+    step_tells (events.Draft table schema) lucks = declared_tells table schema states.Draft (first_luck lucks.calls) (hosted_at w table)
     step_tells (events.Client d gate tables) lucks = joined_tells d tables (first_luck lucks.calls) (client_at w d) refl
     step_tells (events.Write d table row x) lucks = call_tells d (client.Write table row x) lucks.shape lucks.calls tt (client_at w d) refl
     step_tells (events.Edit d table row x) lucks = call_tells d (client.Change table row x) lucks.shape lucks.calls tt (client_at w d) refl
     step_tells (events.Link d up) lucks = side_tells (linked w d up (client_at w d)).world _ (linked_same d up (client_at w d))
+    step_tells (events.Create node table) lucks = created_tells table lucks.shape lucks.calls node
+    step_tells (events.Drop node table) lucks = dropped_tells table lucks.shape lucks.calls node
     step_tells (events.Show d table row) lucks = call_tells d (client.Show table row) lucks.shape lucks.calls tt (client_at w d) refl
     step_tells (events.Sum d table row) lucks = call_tells d (client.Sum table row) lucks.shape lucks.calls tt (client_at w d) refl
     step_tells (events.Sync d table) lucks = call_tells d (client.Sync table) lucks.shape lucks.calls tt (client_at w d) refl
@@ -409,7 +457,7 @@ module _ (c t : ℕ) (w : World) where
   begin_refused : (d table : ℕ) (shape : Shape) (lucks : List Luck) → away c w ≡ true → c ≡ d
       → phase_by c t (events.BeginCr d table) (call w d (client.BeginCr table) shape lucks).answer false ≡ false
   begin_refused d table shape lucks gone same =
-      call_is (λ (x : WorldStep). phase_by c t (events.BeginCr d table) x.answer false ≡ false) w d (client.BeginCr table) shape lucks (λ r before. refl) refl does (client_at w d) refl
+      call_is (λ (x : WorldStep). phase_by c t (events.BeginCr d table) x.answer false ≡ false) w d (client.BeginCr table) shape lucks (λ r before. refl) refl (λ take. absurd take) does (client_at w d) refl
     where
       does : (node : Client) → client_at w d ≡ Some node → phase_by c t (events.BeginCr d table) (calls w d (client.BeginCr table) shape (other_lucks lucks) node).answer false ≡ false
       does node at = go node.disk node.agenda (sym (ap is_away (subst (λ (q : ℕ). client_at w q ≡ Some node) (sym same) at)) ∙ gone) (and_then (move_client d (client.BeginCr table) shape w) (client_follows_from node.agenda d (other_lucks lucks))).failed

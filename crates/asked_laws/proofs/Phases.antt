@@ -97,7 +97,7 @@ start_same table w = go (hosted_at w table)
     go None = (refl, refl)
     go (Some hosted) = made hosted.made
       where
-        made : (b : Bool) → SameSide w (if b then move_table table store.Start w else after_table w table (record hosted { made = true }) (declared_late (owner_of w table) table)).world
+        made : (b : Bool) → SameSide w (if b then move_table table store.Start w else after_table w table (record hosted { made = true }) (declared_late (owner_of w table) table hosted.store.disk.state)).world
         made true = table_same table store.Start w
         made false = (refl, refl)
 
@@ -260,6 +260,7 @@ down_step d shape disk (client.Conflicts table) plain = refl
 down_step d shape disk (client.EndCr table) plain = absurd plain
 down_step d shape disk (client.Resolve table row version choice) plain = refl
 down_step d shape disk (client.ResolveAll table by) plain = refl
+down_step d shape disk (client.Alter table change) plain = refl
 down_step d shape disk (client.Take message) plain = refl
 down_step d shape disk (client.Work messages.Done) plain = refl
 down_step d shape disk (client.Work messages.FailedBefore) plain = refl

@@ -7,7 +7,7 @@ use Rattle.step_tables.specs.Facts as facts
 use Rattle.step_tables.specs.Messages.{Response, Pulled, Header, Outcome, Message, Send, Luck, SyncRequest, SyncResponse, PullRequest, PullResponse}
 use Rattle.step_tables.specs.Messages as messages
 use Rattle.step_tables.specs.ClientMoves as client
-use Rattle.step_tables.specs.ClientMoves.{Slots, TableDisk, RowPut, Plan, Placed, ClientDisk, ClientChange, ClientTask, Client, ClientMove, ClientStep, Shape, RowOut, slots_at, table_at, seen, client_step}
+use Rattle.step_tables.specs.ClientMoves.{Slots, TableDisk, TableChange, RowPut, Plan, Placed, ClientDisk, ClientChange, ClientTask, Client, ClientMove, ClientStep, Shape, RowOut, slots_at, table_at, seen, client_step}
 use Rattle.world_tables.specs.World.{tasks_in}
 use Rattle.asked_laws.specs.Asked.{Asked}
 use Rattle.asked_laws.proofs.Tellings.{AreUnsent, unsent_both, facts_asked, FactsAsked, facts_join, facts_both}
@@ -24,7 +24,7 @@ keeps_plain [] more f = f
 keeps_plain (step ∷ steps) more f = ((tt, tt), keeps_plain steps more f)
 
 rest_plain : (shape : Shape) (p : Plan) (sends : List Send) → ArePlainTasks (client.rest_of shape p sends)
-rest_plain shape p sends = go p.row p.position
+rest_plain shape p sends = puts p.alters
   where
     last : List ClientTask
     last = client.keeps shape.after ++ record { change = client.Finish; facts = []; sends = sends } ∷ []
@@ -39,6 +39,10 @@ rest_plain shape p sends = go p.row p.position
     go : (r : Option RowPut) (o : Option ℕ) → ArePlainTasks (client.row_task p r ++ (client.table_task p o ++ last))
     go None o = table o
     go (Some x) o = ((tt, tt), table o)
+
+    puts : (alters : Option TableChange) → ArePlainTasks (client.put_tasks p alters last)
+    puts None = go p.row p.position
+    puts (Some change) = ((tt, tt), ends)
 
 pub planning_one : (P : Plan → Type 0) (shape : Shape) (p : Plan) (sends : List Send) → P p → HasOnePlan P (client.planning shape p sends)
 planning_one P shape p sends f = keeps_one P shape.before _ (inr (record { plan = p; change = refl; tells = refl; fine = f }, rest_plain shape p sends))
@@ -72,13 +76,25 @@ module _ (a : Asked) (c : ℕ) where
   table_put_keeps d table None fine = fine
   table_put_keeps d table (Some position) fine = put_table_keeps d table (table_at d table) (client.put_position position) fine
 
+  altered_keeps : (d : ClientDisk) (table : ℕ) (change : TableChange) → IsFineKept a c d.plan → IsFineKept a c (client.altered d table change).plan
+  altered_keeps d table client.Closes fine = put_table_keeps d table (table_at d table) client.close_table fine
+  altered_keeps d table (client.Opens schema) fine = go (table_at d table)
+    where
+      go : (o : Option TableDisk) → IsFineKept a c (client.open_table d table schema o).plan
+      go None = fine
+      go (Some opened) = fine
+
+  put_of_keeps : (d : ClientDisk) (p : Plan) (alters : Option TableChange) → IsFineKept a c d.plan → IsFineKept a c (client.put_of d p alters).plan
+  put_of_keeps d p None fine = table_put_keeps d p.table p.position fine
+  put_of_keeps d p (Some change) fine = altered_keeps d p.table change fine
+
   plain_keeps : (d : ClientDisk) (task : ClientTask) → IsPlainTask task → IsFineKept a c d.plan → IsFineKept a c (client.changed d task.change).plan
   plain_keeps d task plain fine = go task.change plain.0
     where
       go : (change : ClientChange) → IsNoCommit change → IsFineKept a c (client.changed d change).plan
       go (client.Commit p) f = absurd f
       go (client.PutRow p) f = row_put_keeps d p.last p.table p.row fine
-      go (client.PutTable p) f = table_put_keeps d p.table p.position fine
+      go (client.PutTable p) f = put_of_keeps d p p.alters fine
       go client.Finish f = tt
       go (client.Keep step) f = fine
 

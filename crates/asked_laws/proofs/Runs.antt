@@ -7,6 +7,8 @@ use Rattle.std.specs.BTreeMap.{insert_entry}
 use Rattle.row_value.specs.declared.schema.Schema.{Schema}
 use Rattle.table_model.specs.declared.event.Event.{Event}
 use Rattle.table_model.specs.declared.event.Event.TheVariants as events
+use Rattle.table_model.specs.declared.table_state.TableState.{TableState}
+use Rattle.table_model.specs.declared.table_state.TableState.TheVariants as states
 use Rattle.conflicts.specs.declared.pair.Choice.{Choice}
 use Rattle.conflicts.specs.declared.stored.Stored as resolvers
 use Rattle.step_tables.specs.Facts.{Answer, Refusal, Line, AnswerLine, EntryLine, PairLine}
@@ -30,6 +32,7 @@ use Rattle.asked_laws.proofs.Stores.{ArePlainWrites}
 use Rattle.asked_laws.proofs.Worlds.{AreFine, ClientsFine, put_table, Goes}
 use Rattle.asked_laws.proofs.Each.{Resolves, IsResolving, each_stays, IsIdleNumber, all_idle}
 use Rattle.asked_laws.proofs.Events.{or_too, StepGoes, told_goes, later, answered_goes, down_goes, unread_goes, called_goes, call_goes, delivered_goes, shows_go, chunks_go, history_goes, link_goes, held_goes, worked_goes, all_worked_goes, crashed_goes, started_goes, conflicts_go}
+use Rattle.asked_laws.proofs.Events.{created_goes, dropped_goes}
 
 -- ---- what is resolved
 
@@ -52,7 +55,7 @@ all_goes : (a : Asked) (w : World) → AreFine a w → (c table : ℕ) (by : res
     → StepGoes a w (events.ResolveAll c table by) (resolve_all w c table by shapes more (call w c (client.ResolveAll table by) shape lucks))
 all_goes a w fine c table by shape shapes lucks more =
     call_is (λ (x : WorldStep). StepGoes a w event (resolve_all w c table by shapes more x)) w c (client.ResolveAll table by) shape lucks
-    (λ r before. answered_goes a w fine event (facts.Refuses r)) (unread_goes a w fine event c)
+    (λ r before. answered_goes a w fine event (facts.Refuses r)) (unread_goes a w fine event c) (λ take. absurd take)
     (λ node at. by_fault node at (and_then (move_client c (client.ResolveAll table by) shape w) (client_follows_from node.agenda c (other_lucks lucks)))
     (λ final. called_goes a w fine event c (client.ResolveAll table by) shape (other_lucks lucks) (answered_asked event final a) (later a w fine event final) node at tt)
     (client_step c shape node (client.ResolveAll table by)).answer (all_idle shape node.disk node.agenda table by))
@@ -105,21 +108,21 @@ module _ (a : Asked) (w : World) (fine : AreFine a w) where
   unsaid : (event : Event) (v : World) → AreFine a v → v.packets ≡ w.packets → StepGoes a w event (silent v)
   unsaid event v f same = record { asked = tt; fine = f; answer = refl; sent = refl; packets = same ∙ sym (append-nil w.packets) }
 
-  declared_goes : (table : ℕ) (schema : Schema) (luck : Luck) (o : Option Hosted) → StepGoes a w (events.Table table schema) (silent (declared w table schema luck o))
-  declared_goes table schema luck (Some hosted) = unsaid (events.Table table schema) w fine refl
-  declared_goes table schema luck None = go luck
+  declared_goes : (event : Event) (table : ℕ) (schema : Schema) (state : TableState) (luck : Luck) (o : Option Hosted) → StepGoes a w event (silent (declared w table schema state luck o))
+  declared_goes event table schema state luck (Some hosted) = unsaid event w fine refl
+  declared_goes event table schema state luck None = go luck
     where
-      with_new : (made : Bool) → AreFine a (with_table w table schema made)
+      with_new : (made : Bool) → AreFine a (with_table w table schema state made)
       with_new made = (put_table w.tables table _ fine.0 (none made), fine.1)
         where
           none : (b : Bool) → ArePlainWrites (tasks_in (agenda_of b))
           none true = tt
           none false = tt
 
-      go : (x : Luck) → StepGoes a w (events.Table table schema) (silent (made_with w table schema x))
-      go messages.Done = unsaid (events.Table table schema) (made_with w table schema messages.Done) (with_new true) refl
-      go messages.FailedBefore = unsaid (events.Table table schema) (made_with w table schema messages.FailedBefore) (with_new false) refl
-      go messages.FailedAfter = unsaid (events.Table table schema) (made_with w table schema messages.FailedAfter) (with_new false) refl
+      go : (x : Luck) → StepGoes a w event (silent (made_with w table schema state x))
+      go messages.Done = unsaid event (made_with w table schema state messages.Done) (with_new true) refl
+      go messages.FailedBefore = unsaid event (made_with w table schema state messages.FailedBefore) (with_new false) refl
+      go messages.FailedAfter = unsaid event (made_with w table schema state messages.FailedAfter) (with_new false) refl
 
   joined_goes : (c : ℕ) (gate : Option ℕ) (tables : List ℕ) (luck : Luck) (o : Option Client) → StepGoes a w (events.Client c gate tables) (silent (joined w c tables luck o))
   joined_goes c gate tables luck (Some node) = unsaid (events.Client c gate tables) w fine refl
@@ -142,11 +145,14 @@ module _ (a : Asked) (w : World) (fine : AreFine a w) where
   pub step_goes : (event : Event) (lucks : Lucks) → StepGoes a w event (step w event lucks)
   step_goes (events.Store number) lucks = unsaid (events.Store number) (with_store number w) fine refl
   step_goes (events.Gate number) lucks = unsaid (events.Gate number) w fine refl
-  step_goes (events.Table table schema) lucks = declared_goes table schema (first_luck lucks.calls) (hosted_at w table)
+  step_goes (events.Table table schema) lucks = declared_goes (events.Table table schema) table schema states.Live (first_luck lucks.calls) (hosted_at w table)
+  step_goes (events.Draft table schema) lucks = declared_goes (events.Draft table schema) table schema states.Draft (first_luck lucks.calls) (hosted_at w table)
   step_goes (events.Client c gate tables) lucks = joined_goes c gate tables (first_luck lucks.calls) (client_at w c)
   step_goes (events.Write c table row x) lucks = call_goes a w fine (events.Write c table row x) c (client.Write table row x) lucks.shape lucks.calls (λ node final lets. tt) (client_at w c) refl
   step_goes (events.Edit c table row x) lucks = call_goes a w fine (events.Edit c table row x) c (client.Change table row x) lucks.shape lucks.calls (λ node final lets. tt) (client_at w c) refl
   step_goes (events.Link c up) lucks = link_goes a w fine (events.Link c up) c up (client_at w c)
+  step_goes (events.Create node table) lucks = created_goes a w fine (events.Create node table) table lucks.shape lucks.calls node
+  step_goes (events.Drop node table) lucks = dropped_goes a w fine (events.Drop node table) table lucks.shape lucks.calls node
   step_goes (events.Show c table row) lucks = call_goes a w fine (events.Show c table row) c (client.Show table row) lucks.shape lucks.calls (λ node final lets. tt) (client_at w c) refl
   step_goes (events.Sum c table row) lucks = call_goes a w fine (events.Sum c table row) c (client.Sum table row) lucks.shape lucks.calls (λ node final lets. tt) (client_at w c) refl
   step_goes (events.Sync c table) lucks = call_goes a w fine (events.Sync c table) c (client.Sync table) lucks.shape lucks.calls (λ node final lets. tt) (client_at w c) refl

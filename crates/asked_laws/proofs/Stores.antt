@@ -4,12 +4,13 @@ use Rattle.std.specs.Prelude.{if◌then◌else◌, ◌==◌, ◌&&◌, nat_lt}
 use Rattle.stab_base.specs.declared.node.Node.{Node}
 use Rattle.stab_base.specs.declared.chunk_name.ChunkName.{ChunkName}
 use Rattle.row_value.specs.declared.schema.Scheme.{Scheme}
+use Rattle.table_model.specs.declared.table_state.TableState.TheVariants as states
 use Rattle.step_tables.specs.Facts as facts
 use Rattle.step_tables.specs.Messages.{Request, Pair, Message, Luck, SyncRequest, SyncResponse, PullRequest, PullResponse, TornRowRequest, TornRowResponse}
 use Rattle.step_tables.specs.Messages as messages
 use Rattle.step_tables.specs.Store.{Stored, current_of}
 use Rattle.step_tables.specs.StoreMoves as store
-use Rattle.step_tables.specs.StoreMoves.{StoreDisk, StoreTask, TableStore, StoreMove, StoreStep, store_step}
+use Rattle.step_tables.specs.StoreMoves.{StoreDisk, SidePut, StoreTask, TableStore, StoreMove, StoreStep, store_step}
 use Rattle.step_tables.specs.Chunks.{rising, new_names, old_names, is_spelled}
 use Rattle.world_tables.specs.World.{tasks_in}
 use Rattle.asked_laws.proofs.Fine.{ArePlainFacts}
@@ -101,8 +102,20 @@ started_plain number table d None p = go d.pending
     go None = (tt, (tt, (tt, ((tt, tt), tt))))
     go (Some i) = found i (store.item_at i.entry.version d.items)
 
+told_plain : (table : ℕ) (put : SidePut) → ArePlainFacts (store.told_beside table put)
+told_plain table (store.PutState states.Draft) = tt
+told_plain table (store.PutState states.Live) = (tt, tt)
+told_plain table (store.PutState states.Dropped) = (tt, tt)
+told_plain table (store.PutSub client terms) = tt
+
+placed_plain : (table : ℕ) (d : StoreDisk) (agenda : Option (List StoreTask)) (put : SidePut) → ArePlainWrites (tasks_in agenda) → IsPlainStep (store.placed table d agenda put)
+placed_plain table d None put p = (tt, tt)
+placed_plain table d (Some []) put p = (tt, (told_plain table put, tt))
+placed_plain table d (Some (task ∷ more)) put p = (tt, p)
+
 pub store_plain : (number : ℕ) (g : Scheme) (size table : ℕ) (s : TableStore) (move : StoreMove) → ArePlainWrites (tasks_in s.agenda) → IsPlainStep (store_step number g size table s move)
 store_plain number g size table s (store.Take from m) p = taken_plain g size table s.disk from s.agenda m p
+store_plain number g size table s (store.Place put) p = placed_plain table s.disk s.agenda put p
 store_plain number g size table s (store.Work luck) p = worked_plain s.disk s.agenda luck p
 store_plain number g size table s (store.Crash luck) p = crashed_plain s.disk s.agenda luck
 store_plain number g size table s store.Start p = started_plain number table s.disk s.agenda p

@@ -211,9 +211,12 @@ start_goes table a w fine = go (hosted_at w table)
     go None = still_goes a w fine
     go (Some hosted) = made hosted.made
       where
-        made : (b : Bool) → Goes a w.packets (if b then move_table table store.Start w else after_table w table (record hosted { made = true }) (declared_late (owner_of w table) table))
+        late : StoreStep
+        late = declared_late (owner_of w table) table hosted.store.disk.state
+
+        made : (b : Bool) → Goes a w.packets (if b then move_table table store.Start w else after_table w table (record hosted { made = true }) late)
         made true = table_goes a w table store.Start fine
-        made false = after_goes a w table (record hosted { made = true }) (declared_late (owner_of w table) table) fine ((tt, tt), tt)
+        made false = after_goes a w table (record hosted { made = true }) late fine ((tt, tt), tt)
 
 starts_go : (tables : List ℕ) (lucks : List Luck) (a : Asked) (w : World) → AreFine a w → Goes a w.packets (tables_start tables lucks w)
 starts_go [] lucks a w fine = still_goes a w fine

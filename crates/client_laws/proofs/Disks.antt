@@ -14,9 +14,9 @@ use Rattle.step_tables.specs.Client.{row_cmp}
 use Rattle.step_tables.specs.Members.{Among}
 use Rattle.step_tables.specs.Sayings.{Heard}
 use Rattle.step_tables.specs.ClientMoves.{Slots, TableDisk, RowPut, Plan, ClientDisk, or_none, slots_at, slots_in, slots_of, table_at, position_in, position_of, with_table, put_row, put_position}
-use Rattle.step_tables.specs.ClientMoves.{row_put, table_put, applied}
+use Rattle.step_tables.specs.ClientMoves.{row_put, table_put, TableChange, Opens, Closes, opened_table, open_table, close_table, altered, rows_applied, applied_by, applied}
 use Rattle.step_tables.proofs.Lists.{lookup-insert_nat, lookup-insert_row, same_row_tells}
-use Rattle.client_laws.specs.Part.{Items, Sending, RowTied, TableTied, Rising, IsOpened, Tied}
+use Rattle.client_laws.specs.Part.{Items, Sending, RowTied, TableTied, Rising, IsOpened, Tied, IsFairChange}
 
 -- ---- the ids of rows rise
 
@@ -117,9 +117,9 @@ nested : {X : Type 0} (b : Bool) (x y z : X) → (if b then x else (if b then y 
 nested true x y z = refl
 nested false x y z = refl
 
-pub applied_at : (p : Plan) (d : ClientDisk) (q : ℕ)
-    → table_at (applied p d) q ≡ (if p.table == q then option_map (opened_by p) (table_at d p.table) else table_at d q)
-applied_at p d q =
+pub rows_applied_at : (p : Plan) (d : ClientDisk) (q : ℕ)
+    → table_at (rows_applied p d) q ≡ (if p.table == q then option_map (opened_by p) (table_at d p.table) else table_at d q)
+rows_applied_at p d q =
     let e : ClientDisk = row_put d p.last p.table p.row in
     table_put_at e p.table p.position q
     ∙ ap (λ (m : Option TableDisk). if p.table == q then option_map (position_by p.position) m else table_at e q)
@@ -159,8 +159,8 @@ pub table_put_plan : (d : ClientDisk) (n : ℕ) (position : Option ℕ) → (tab
 table_put_plan d n None = refl
 table_put_plan d n (Some position) = with_table_plan d n (table_at d n) (put_position position)
 
-pub applied_last : (p : Plan) (d : ClientDisk) → (applied p d).last ≡ last_behind d.last p.last p.row
-applied_last p d = table_put_last (row_put d p.last p.table p.row) p.table p.position ∙ row_put_last d p.last p.table p.row
+pub rows_applied_last : (p : Plan) (d : ClientDisk) → (rows_applied p d).last ≡ last_behind d.last p.last p.row
+rows_applied_last p d = table_put_last (row_put d p.last p.table p.row) p.table p.position ∙ row_put_last d p.last p.table p.row
 
 -- ---- disks that hold the same
 
@@ -252,44 +252,178 @@ alike_by false m (Some o) f k same itself = itself o
 itself : (o : TableDisk) → OpenedAlike o o
 itself o = record { schema = refl; position = refl; slots = λ row. refl; rising = λ r. r }
 
+alike_one : (m : Option TableDisk) → TableAlike m m
+alike_one None = tt
+alike_one (Some x) = itself x
+
+-- ---- a table that is opened or closed
+
+abbrev alter_by : TableChange → Option TableDisk → Option TableDisk
+alter_by (Opens schema) None = Some (opened_table schema)
+alter_by (Opens schema) (Some o) = Some o
+alter_by Closes m = option_map close_table m
+
+pub altered_at : (d : ClientDisk) (n : ℕ) (change : TableChange) (q : ℕ) → table_at (altered d n change) q ≡ (if n == q then alter_by change (table_at d n) else table_at d q)
+altered_at d n (Opens schema) q = by_table (table_at d n) refl
+  where
+    by_table : (m : Option TableDisk) → table_at d n ≡ m → table_at (open_table d n schema m) q ≡ (if n == q then alter_by (Opens schema) m else table_at d q)
+    by_table None is = lookup-insert_nat d.tables n (opened_table schema) q
+    by_table (Some o) is = unchanged d n q ∙ ap (λ (m : Option TableDisk). if n == q then m else table_at d q) is
+altered_at d n Closes q = with_table_at d n close_table q (table_at d n) refl
+
+pub altered_last : (d : ClientDisk) (n : ℕ) (change : TableChange) → (altered d n change).last ≡ d.last
+altered_last d n (Opens schema) = by_table (table_at d n)
+  where
+    by_table : (m : Option TableDisk) → (open_table d n schema m).last ≡ d.last
+    by_table None = refl
+    by_table (Some o) = refl
+altered_last d n Closes = with_table_last d n (table_at d n) close_table
+
+pub altered_plan : (d : ClientDisk) (n : ℕ) (change : TableChange) → (altered d n change).plan ≡ d.plan
+altered_plan d n (Opens schema) = by_table (table_at d n)
+  where
+    by_table : (m : Option TableDisk) → (open_table d n schema m).plan ≡ d.plan
+    by_table None = refl
+    by_table (Some o) = refl
+altered_plan d n Closes = with_table_plan d n (table_at d n) close_table
+
+-- disks of the same tables have them behind it
+altered_alike : (d e : ClientDisk) (n : ℕ) (change : TableChange) → e.last ≡ d.last → ((q : ℕ) → table_at e q ≡ table_at d q) → Alike (altered d n change) (altered e n change)
+altered_alike d e n change last at = record {
+  last = altered_last e n change ∙ (last ∙ sym (altered_last d n change));
+  tables = λ q. subst (λ (m : Option TableDisk). TableAlike (table_at (altered d n change) q) m) (same q) (alike_one (table_at (altered d n change) q));
+}
+  where
+    same : (q : ℕ) → table_at (altered d n change) q ≡ table_at (altered e n change) q
+    same q =
+        altered_at d n change q
+        ∙ ap (λ (m : Option TableDisk). if n == q then alter_by change m else table_at d q) (sym (at n))
+        ∙ ap (λ (m : Option TableDisk). if n == q then alter_by change (table_at e n) else m) (sym (at q))
+        ∙ sym (altered_at e n change q)
+
+alter_twice : (change : TableChange) (m : Option TableDisk) → TableAlike (alter_by change m) (alter_by change (alter_by change m))
+alter_twice (Opens schema) None = itself (opened_table schema)
+alter_twice (Opens schema) (Some o) = itself o
+alter_twice Closes None = tt
+alter_twice Closes (Some o) = record { schema = refl; position = refl; slots = λ row. refl; rising = λ r. r }
+
+-- done again it changes nothing more
+pub alike_altered : (d : ClientDisk) (n : ℕ) (change : TableChange) → Alike (altered d n change) (altered (altered d n change) n change)
+alike_altered d n change = record {
+  last = altered_last (altered d n change) n change;
+  tables = λ q.
+      let at : table_at (altered (altered d n change) n change) q ≡ (if n == q then alter_by change (alter_by change (table_at d n)) else table_at d q) =
+      altered_at (altered d n change) n change q
+      ∙ ap (λ (m : Option TableDisk). if n == q then alter_by change m else table_at (altered d n change) q) (altered_at d n change n ∙ at_itself n (alter_by change (table_at d n)) (table_at d n))
+      ∙ ap (λ (m : Option TableDisk). if n == q then alter_by change (alter_by change (table_at d n)) else m) (altered_at d n change q)
+      ∙ nested (n == q) (alter_by change (alter_by change (table_at d n))) (alter_by change (table_at d n)) (table_at d q) in
+      subst (λ (m : Option TableDisk). TableAlike m (table_at (altered (altered d n change) n change) q)) (sym (altered_at d n change q))
+      (subst (λ (m : Option TableDisk). TableAlike (if n == q then alter_by change (table_at d n) else table_at d q) m) (sym at) (each (n == q) q));
+}
+  where
+    each : (b : Bool) (q : ℕ) → TableAlike (if b then alter_by change (table_at d n) else table_at d q) (if b then alter_by change (alter_by change (table_at d n)) else table_at d q)
+    each true q = alter_twice change (table_at d n)
+    each false q = alike_one (table_at d q)
+
+-- no row and no position shows it
+pub altered_slots : (d : ClientDisk) (n : ℕ) (change : TableChange) (q : ℕ) (row : List ℕ) → slots_of (altered d n change) q row ≡ slots_of d q row
+altered_slots d n change q row = ap (λ (m : Option TableDisk). slots_in m row) (altered_at d n change q) ∙ each (n == q) refl
+  where
+    one : (change : TableChange) (m : Option TableDisk) → slots_in (alter_by change m) row ≡ slots_in m row
+    one (Opens schema) None = refl
+    one (Opens schema) (Some o) = refl
+    one Closes None = refl
+    one Closes (Some o) = refl
+
+    each : (b : Bool) → (n == q) ≡ b → slots_in (if b then alter_by change (table_at d n) else table_at d q) row ≡ slots_in (table_at d q) row
+    each true same = one change (table_at d n) ∙ (let e : n ≡ q = grind (arith, nat_tests, same) in ap (λ (x : ℕ). slots_in (table_at d x) row) e)
+    each false same = refl
+
+pub altered_position : (d : ClientDisk) (n : ℕ) (change : TableChange) (q : ℕ) → position_of (altered d n change) q ≡ position_of d q
+altered_position d n change q = ap position_in (altered_at d n change q) ∙ each (n == q) refl
+  where
+    one : (change : TableChange) (m : Option TableDisk) → position_in (alter_by change m) ≡ position_in m
+    one (Opens schema) None = refl
+    one (Opens schema) (Some o) = refl
+    one Closes None = refl
+    one Closes (Some o) = refl
+
+    each : (b : Bool) → (n == q) ≡ b → position_in (if b then alter_by change (table_at d n) else table_at d q) ≡ position_in (table_at d q)
+    each true same = one change (table_at d n) ∙ (let e : n ≡ q = grind (arith, nat_tests, same) in ap (λ (x : ℕ). position_in (table_at d x)) e)
+    each false same = refl
+
+altered_opened : (g : ℕ → Scheme) (d : ClientDisk) (n : ℕ) (change : TableChange) → IsFairChange (g n) change
+    → ((q : ℕ) (o : TableDisk) → table_at d q ≡ Some o → IsOpened (g q) o) → (q : ℕ) (o : TableDisk) → table_at (altered d n change) q ≡ Some o → IsOpened (g q) o
+unfolding Rising
+altered_opened g d n change fair k q o at = each (n == q) refl (sym (altered_at d n change q) ∙ at)
+  where
+    one : (change : TableChange) → IsFairChange (g n) change → (m : Option TableDisk) → table_at d n ≡ m → alter_by change m ≡ Some o → IsOpened (g n) o
+    one (Opens schema) fair None is e =
+        let same : opened_table schema ≡ o = cc in
+        let whole : IsOpened (g n) (opened_table schema) = record { scheme_is = fair; rising = tt } in
+        subst (λ (x : TableDisk). IsOpened (g n) x) same whole
+    one (Opens schema) fair (Some x) is e = k n o (is ∙ e)
+    one Closes fair None is e = absurd cc
+    one Closes fair (Some x) is e =
+        let same : close_table x ≡ o = cc in
+        let was = k n x is in
+        let whole : IsOpened (g n) (close_table x) = record { scheme_is = was.scheme_is; rising = was.rising } in
+        subst (λ (y : TableDisk). IsOpened (g n) y) same whole
+
+    each : (b : Bool) → (n == q) ≡ b → (if b then alter_by change (table_at d n) else table_at d q) ≡ Some o → IsOpened (g q) o
+    each true same e = (let here : n ≡ q = grind (arith, nat_tests, same) in subst (λ (x : ℕ). IsOpened (g x) o) here (one change fair (table_at d n) refl e))
+    each false same e = k q o e
+
+pub tied_altered : (g : ℕ → Scheme) (c : ℕ) (h : Items) (sent : List Sending) (d : ClientDisk) (t : Heard) (n : ℕ) (change : TableChange) → IsFairChange (g n) change
+    → Tied g c h sent d t → Tied g c h sent (altered d n change) t
+tied_altered g c h sent d t n change fair k = record {
+  last = altered_last d n change ∙ k.last;
+  rows = λ q row. subst (λ (s : Slots). RowTied (g q) c (h q) q row s t.writes (t.at q row) sent) (sym (altered_slots d n change q row)) (k.rows q row);
+  tables = λ q. subst (λ (x : ℕ). TableTied (h q) q x t) (sym (altered_position d n change q)) (k.tables q);
+  opened = altered_opened g d n change fair k.opened;
+}
+
 module _ (p : Plan) (d : ClientDisk) where
   -- behind a change of the plan's table that doesn't show once the plan is carried out
   alike_behind : (e : ClientDisk) (k : TableDisk → TableDisk) → ((o : TableDisk) → OpenedAlike (opened_by p o) (opened_by p (k o)))
       → ((q : ℕ) → table_at e q ≡ (if p.table == q then option_map k (table_at d p.table) else table_at d q))
-      → last_behind e.last p.last p.row ≡ last_behind d.last p.last p.row → Alike (applied p d) (applied p e)
+      → last_behind e.last p.last p.row ≡ last_behind d.last p.last p.row → Alike (rows_applied p d) (rows_applied p e)
   alike_behind e k same at last = record {
-    last = applied_last p e ∙ last ∙ sym (applied_last p d);
+    last = rows_applied_last p e ∙ last ∙ sym (rows_applied_last p d);
     tables = λ q.
         let here : table_at e p.table ≡ option_map k (table_at d p.table) = at p.table ∙ at_itself p.table (option_map k (table_at d p.table)) (table_at d p.table) in
-        let behind : table_at (applied p e) q ≡ (if p.table == q then option_map (λ (o : TableDisk). opened_by p (k o)) (table_at d p.table) else table_at d q) =
-        applied_at p e q
+        let behind : table_at (rows_applied p e) q ≡ (if p.table == q then option_map (λ (o : TableDisk). opened_by p (k o)) (table_at d p.table) else table_at d q) =
+        rows_applied_at p e q
         ∙ ap (λ (m : Option TableDisk). if p.table == q then option_map (opened_by p) m else table_at e q) here
         ∙ ap (λ (m : Option TableDisk). if p.table == q then option_map (opened_by p) (option_map k (table_at d p.table)) else m) (at q)
         ∙ nested (p.table == q) (option_map (opened_by p) (option_map k (table_at d p.table))) (option_map k (table_at d p.table)) (table_at d q)
         ∙ ap (λ (m : Option TableDisk). if p.table == q then m else table_at d q) (option_map-twice (opened_by p) k (table_at d p.table)) in
-        subst (λ (m : Option TableDisk). TableAlike m (table_at (applied p e) q)) (sym (applied_at p d q))
+        subst (λ (m : Option TableDisk). TableAlike m (table_at (rows_applied p e) q)) (sym (rows_applied_at p d q))
         (subst (λ (m : Option TableDisk). TableAlike (if p.table == q then option_map (opened_by p) (table_at d p.table) else table_at d q) m) (sym behind)
         (alike_by (p.table == q) (table_at d p.table) (table_at d q) (opened_by p) (λ (o : TableDisk). opened_by p (k o)) same itself));
   }
 
-  pub alike_row : Alike (applied p d) (applied p (row_put d p.last p.table p.row))
+  pub alike_row : Alike (rows_applied p d) (rows_applied p (row_put d p.last p.table p.row))
   alike_row = alike_behind (row_put d p.last p.table p.row) (row_by p.row)
       (λ o. position_alike_by p.position (row_by p.row o) (row_by p.row (row_by p.row o)) (row_again p.row o))
       (row_put_at d p.last p.table p.row)
       (ap (λ (n : ℕ). last_behind n p.last p.row) (row_put_last d p.last p.table p.row) ∙ last_again d.last p.last p.row)
 
-  pub alike_table : Alike (applied p d) (applied p (table_put d p.table p.position))
+  pub alike_table : Alike (rows_applied p d) (rows_applied p (table_put d p.table p.position))
   alike_table = alike_behind (table_put d p.table p.position) (position_by p.position) (swapped p.row p.position) (table_put_at d p.table p.position)
       (ap (λ (n : ℕ). last_behind n p.last p.row) (table_put_last d p.table p.position))
 
   -- the plan that the disk names doesn't show
-  pub alike_plan : (o : Option Plan) → Alike (applied p d) (applied p (record d { plan = o }))
-  alike_plan o = alike_behind (record d { plan = o }) (λ (x : TableDisk). x) (λ x. itself (opened_by p x))
+  rows_alike_plan : (o : Option Plan) → Alike (rows_applied p d) (rows_applied p (record d { plan = o }))
+  rows_alike_plan o = alike_behind (record d { plan = o }) (λ (x : TableDisk). x) (λ x. itself (opened_by p x))
       (λ q. unchanged d p.table q ∙ ap (λ (m : Option TableDisk). if p.table == q then m else table_at d q) (sym (option_map-same (table_at d p.table)))) refl
 
+  pub alike_plan : (o : Option Plan) → Alike (applied p d) (applied p (record d { plan = o }))
+  alike_plan o = each p.alters
+    where
+      each : (a : Option TableChange) → Alike (applied_by p d a) (applied_by p (record d { plan = o }) a)
+      each None = rows_alike_plan o
+      each (Some change) = altered_alike d (record d { plan = o }) p.table change refl (λ q. refl)
+
 pub alike_itself : (d : ClientDisk) (o : Option Plan) → Alike d (record d { plan = o })
-alike_itself d o = record { last = refl; tables = λ q. each (table_at d q) }
-  where
-    each : (m : Option TableDisk) → TableAlike m m
-    each None = tt
-    each (Some x) = itself x
+alike_itself d o = record { last = refl; tables = λ q. alike_one (table_at d q) }

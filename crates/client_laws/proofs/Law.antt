@@ -27,7 +27,8 @@ use Rattle.conflicts.specs.declared.pair.Choice.{Choice}
 use Rattle.conflicts.specs.declared.pair.Choice.TheVariants.{Mine, Theirs, New}
 use Rattle.conflicts.specs.declared.stored.Stored as resolvers
 use Rattle.step_tables.specs.ClientMoves.{Slots, TableDisk, Plan, ClientDisk, ClientTask, Client, ClientMove}
-use Rattle.step_tables.specs.ClientMoves.{Write, Change, Show, Sum, Sync, Next, BeginCr, Conflicts, EndCr, Resolve, ResolveAll, Take, Work}
+use Rattle.step_tables.specs.ClientMoves.{Write, Change, Show, Sum, Sync, Next, BeginCr, Conflicts, EndCr, Resolve, ResolveAll, Alter, Take, Work}
+use Rattle.step_tables.specs.ClientMoves.{TableChange, Opens, Closes, alter_plan, may_alter, alter_step}
 use Rattle.step_tables.specs.ClientMoves.{phase_in, phase_step, conflicts_in, conflicts_step, can_resolve, all_idle, all_fitting, all_in, all_step}
 use Rattle.step_tables.specs.ClientMoves.{Crash, Start, quiet, refused, ignored, seen, planned_in, slots_at, slots_in, slots_of, table_at, put_row, changed, applied, done, crashed}
 use Rattle.step_tables.specs.ClientMoves.{worked, told, Shape, keeps, rest_of, ending, opening, told_at_start, told_without, begun, slots_plan, resumed, started, request_for, pull_from}
@@ -40,9 +41,9 @@ use Rattle.step_tables.specs.ClientMoves.{outcome_taken, response_taken, respons
 use Rattle.step_tables.specs.ClientMoves.{row_taken, pulled_taken, pulled_in, torn_plan, torn_row_taken, torn_taken, torn_in, take_step, client_step}
 use Rattle.step_tables.specs.Items.{IsItemOf, IsChange}
 use Rattle.client_laws.specs.Part.{Items, Sending, sendings, Ours, RowTied, Tied, AreOwn, Requests, IsPlan, IsNewPlan, RestsOn, Rests, Runs, IsAt, ClientPart, IsRefused, IsOutcome}
-use Rattle.client_laws.specs.Part.{IsHeader, IsRowFor, IsTornHeader, IsMessage, IsFair, IsShown, IsAnswer, ClientLaw}
-use Rattle.client_laws.proofs.Disks.{opened_by, applied_at, applied_last, put_row_slots}
-use Rattle.client_laws.proofs.PlanRuns.{own-retold, shown_of, rested_of, keeps_run, also_own, own-also, ending_runs, rest_runs, plan_runs, told_plan}
+use Rattle.client_laws.specs.Part.{IsHeader, IsRowFor, IsTornHeader, IsMessage, IsFairChange, IsFair, IsShown, IsAnswer, ClientLaw}
+use Rattle.client_laws.proofs.Disks.{opened_by, rows_applied_at, rows_applied_last, put_row_slots, tied_altered}
+use Rattle.client_laws.proofs.PlanRuns.{own-retold, shown_of, rested_of, keeps_run, also_own, own-also, ending_runs, rest_runs, new_plan, plan_runs, told_plan}
 use Rattle.client_laws.proofs.RowFits.{out_with}
 use Rattle.client_laws.proofs.Plans.{write_is_plan, strong_is_plan, send_is_plan, whole_is_plan, ack_is_plan, lost_is_plan, over_is_plan, theirs_is_plan}
 use Rattle.client_laws.proofs.Headers.{position_is_plan, row_plan_is, torn_plan_is}
@@ -173,10 +174,10 @@ module _ (g : ℕ → Scheme) (c : ℕ) (h : Items) (sent : List Sending) (t : H
 
     -- a row's slots behind a plan that changes it
     slots_after : (table : ℕ) (o : TableDisk) → table_at d table ≡ Some o → (last : ℕ) (row : List ℕ) (s : Slots) (fs : List ClientFact)
-        → slots_of (applied (record { last = last; table = table; row = Some (record { row = row; slots = s }); position = None; facts = fs }) d) table row ≡ s
+        → slots_of (applied (record { last = last; table = table; row = Some (record { row = row; slots = s }); position = None; alters = None; facts = fs }) d) table row ≡ s
     slots_after table o is last row s fs =
-        let p : Plan = record { last = last; table = table; row = Some (record { row = row; slots = s }); position = None; facts = fs } in
-        ap (λ (m : Option TableDisk). slots_in m row) (applied_at p d table ∙ at_test p (table == table) refl) ∙ put_is (put_row_slots (record { row = row; slots = s }) o row)
+        let p : Plan = record { last = last; table = table; row = Some (record { row = row; slots = s }); position = None; alters = None; facts = fs } in
+        ap (λ (m : Option TableDisk). slots_in m row) (rows_applied_at p d table ∙ at_test p (table == table) refl) ∙ put_is (put_row_slots (record { row = row; slots = s }) o row)
       where
         at_test : (p : Plan) (b : Bool) → (table == table) ≡ b
             → (if b then option_map (opened_by p) (table_at d table) else table_at d table) ≡ Some (opened_by p o)
@@ -200,7 +201,7 @@ module _ (g : ℕ → Scheme) (c : ℕ) (h : Items) (sent : List Sending) (t : H
         let u : Heard = own_all t (told p) in
         let plan = strong_is_plan g c h sent t ours d tied table row o is strong size content in
         let waits : (slots_of (applied p d) table row).out ≡ Some out = ap (λ (s : Slots). s.out) (slots_after table o is (d.last + 1) row (record (slots_at o row) { out = Some out }) p.facts) in
-        let number : d.last + 1 ≡ length u.writes = sym (applied_last p d) ∙ plan.plan.tied.last in
+        let number : d.last + 1 ≡ length u.writes = sym (rows_applied_last p d) ∙ plan.plan.tied.last in
         begun_law (Write table row content) d _ p (request_for c table row out ∷ []) tt idle plan
         (request_is g c h sent (applied p d) u plan.plan.tied table row out waits, tt)
         (sent_tied g c h sent (applied p d) u plan.plan.tied table row out waits (omega (arith, number)))
@@ -601,6 +602,21 @@ module _ (g : ℕ → Scheme) (c : ℕ) (h : Items) (sent : List Sending) (t : H
       by_table None = quiet_law (ResolveAll table by) d (Some agenda) _ tt p
       by_table (Some o) = by_fit o (can_resolve o.schema by)
 
+  -- a table is opened or closed
+  alter_is_plan : (d : ClientDisk) (table : ℕ) (change : TableChange) → IsFairChange (g table) change → Tied g c h sent d t → IsNewPlan g c h sent d t (alter_plan c d table change)
+  alter_is_plan d table (Opens schema) f k = new_plan g c h sent d t (alter_plan c d table (Opens schema)) (tt, tt) (tt, tt) refl (tied_altered g c h sent d t table (Opens schema) f k)
+  alter_is_plan d table Closes f k = new_plan g c h sent d t (alter_plan c d table Closes) (tt, tt) (tt, tt) refl (tied_altered g c h sent d t table Closes f k)
+
+  alter_law : (d : ClientDisk) (agenda : Option (List ClientTask)) (table : ℕ) (change : TableChange) → IsFairChange (g table) change → IsAt g c h sent d t agenda
+      → ClientLaw g c h sent t (Alter table change) (alter_step c shape d agenda table change)
+  alter_law d None table change f p = quiet_law (Alter table change) d None _ tt p
+  alter_law d (Some (task ∷ more)) table change f p = quiet_law (Alter table change) d (Some (task ∷ more)) _ tt p
+  alter_law d (Some []) table change f p = by_test (may_alter change (table_at (seen d) table))
+    where
+      by_test : (b : Bool) → ClientLaw g c h sent t (Alter table change) (if b then begun shape d facts.Done (alter_plan c d table change) [] else ignored d)
+      by_test true = silent_law (Alter table change) d facts.Done (alter_plan c d table change) [] tt p (alter_is_plan d table change f p.0) tt refl
+      by_test false = quiet_law (Alter table change) d (Some []) facts.Done tt p
+
   take_law : (d : ClientDisk) (agenda : Option (List ClientTask)) (message : Message) → IsMessage g c h sent message → IsAt g c h sent d t agenda
       → ClientLaw g c h sent t (Take message) (take_step c shape d agenda message)
   take_law d None message f p = quiet_law (Take message) d None _ tt p
@@ -636,6 +652,7 @@ module _ (g : ℕ → Scheme) (c : ℕ) (h : Items) (sent : List Sending) (t : H
   client_laws s (EndCr table) f p = phase_law (EndCr table) s.disk s.agenda table (λ answer. tt) p
   client_laws s (Resolve table row version choice) f p = resolve_law s.disk s.agenda table row version choice p
   client_laws s (ResolveAll table by) f p = all_law s.disk s.agenda table by p
+  client_laws s (Alter table change) f p = alter_law s.disk s.agenda table change f p
   client_laws s (Take message) f p = take_law s.disk s.agenda message f p
   client_laws s (Work luck) f p = work_law s.disk s.agenda luck p
   client_laws s (Crash luck) f p = crash_law (Crash luck) s.disk s.agenda luck (λ answer. tt) p

@@ -9,10 +9,10 @@ use Rattle.step_tables.specs.Facts as facts
 use Rattle.step_tables.specs.Messages.{Send}
 use Rattle.step_tables.specs.Sayings.{Saying, SaysNothing, SaysWrite, SaysEntry, SaysBack, SaysAck, SaysLoss, SaysConflict, SaysResolved, SaysRead, SaysPosition}
 use Rattle.step_tables.specs.Sayings.{client_says, saying, Heard, own, own_all}
-use Rattle.step_tables.specs.ClientMoves.{RowPut, Plan, ClientDisk, ClientTask, Shape, Commit, PutTable, Finish, row_put, table_put, applied, planned_in, seen, changed, told, retold, row_task}
-use Rattle.step_tables.specs.ClientMoves.{table_task, only, keeps, rest_of, planning, ending}
+use Rattle.step_tables.specs.ClientMoves.{RowPut, Plan, TableChange, ClientDisk, ClientTask, Shape, Commit, PutTable, Finish, row_put, table_put, altered, rows_applied, applied_by, applied, planned_in, seen, put_of, changed, told, retold, row_task}
+use Rattle.step_tables.specs.ClientMoves.{table_task, only, keeps, put_tasks, rest_of, planning, ending}
 use Rattle.client_laws.specs.Part.{Items, Sending, sendings, Tied, IsOwn, AreOwn, Requests, IsPlan, IsNewPlan, RestsOn, Rests, Runs}
-use Rattle.client_laws.proofs.Disks.{Alike, tied_alike, alike_row, alike_table, alike_plan, alike_itself, row_put_plan, table_put_plan}
+use Rattle.client_laws.proofs.Disks.{Alike, tied_alike, alike_row, alike_table, alike_plan, alike_itself, row_put_plan, table_put_plan, altered_plan, alike_altered}
 
 -- ---- facts told by a start
 
@@ -133,61 +133,102 @@ module _ (g : ℕ → Scheme) (c : ℕ) (h : Items) where
     at_rest : (e : ClientDisk) → e.plan ≡ Some p → IsPlan g c h sent e u p → Rests g c h sent e u
     at_rest e plan_is x = subst (λ (o : Option Plan). RestsOn g c h sent e u o) (sym plan_is) x
 
-    abbrev put : ClientDisk
-    put = row_put d p.last p.table p.row
-
-    put_plan : put.plan ≡ Some p
-    put_plan = row_put_plan d p.last p.table p.row ∙ is
-
-    put_is : IsPlan g c h sent put u p
-    put_is = plan_alike sent d put u p (alike_row p d) k
-
-    whole_plan : (applied p d).plan ≡ Some p
-    whole_plan = table_put_plan put p.table p.position ∙ put_plan
-
-    whole_is : IsPlan g c h sent (applied p d) u p
-    whole_is = plan_alike sent put (applied p d) u p (alike_table p put) put_is
-
     of_plan : (e : ClientDisk) → IsPlan g c h sent e u p → Tied g c h sent (applied p e) u
     of_plan e x = subst (λ (y : Heard). Tied g c h sent (applied p e) y) same x.tied
 
-    finish_runs : (e : ClientDisk) → e ≡ applied p d → Runs g c h sent e u last
-    finish_runs e at = subst (λ (x : ClientDisk). Runs g c h sent x u last) (sym at) (
-      seen_tied (applied p d) whole_plan (of_plan (applied p d) whole_is),
-      at_rest (applied p d) whole_plan whole_is,
-      tied_alike g c h sent (applied p d) (record (applied p d) { plan = None }) u (alike_itself (applied p d) None) tied,
-      tt,
-      requests,
-      (tied_alike g c h (sent ++ sendings sends) (applied p d) (record (applied p d) { plan = None }) u (alike_itself (applied p d) None) after, refl),
-    )
+    -- where all puts of the plan are done
+    module _ (whole_plan : (applied p d).plan ≡ Some p) (whole_is : IsPlan g c h sent (applied p d) u p) where
+      finish_runs : (e : ClientDisk) → e ≡ applied p d → Runs g c h sent e u last
+      finish_runs e at = subst (λ (x : ClientDisk). Runs g c h sent x u last) (sym at) (
+        seen_tied (applied p d) whole_plan (of_plan (applied p d) whole_is),
+        at_rest (applied p d) whole_plan whole_is,
+        tied_alike g c h sent (applied p d) (record (applied p d) { plan = None }) u (alike_itself (applied p d) None) tied,
+        tt,
+        requests,
+        (tied_alike g c h (sent ++ sendings sends) (applied p d) (record (applied p d) { plan = None }) u (alike_itself (applied p d) None) after, refl),
+      )
 
-    kept_runs : (e : ClientDisk) → e ≡ applied p d → Runs g c h sent e u (keeps shape.after ++ last)
-    kept_runs e at = keeps_run shape.after sent e u last (finish_runs e at)
+      kept_runs : (e : ClientDisk) → e ≡ applied p d → Runs g c h sent e u (keeps shape.after ++ last)
+      kept_runs e at = keeps_run shape.after sent e u last (finish_runs e at)
 
-    table_runs : (e : ClientDisk) (position : Option ℕ) → p.position ≡ position → e ≡ put → Runs g c h sent e u (table_task p position ++ (keeps shape.after ++ last))
-    table_runs e None at here = kept_runs e (here ∙ sym (ap (λ (n : Option ℕ). table_put put p.table n) at))
-    table_runs e (Some n) at here = subst (λ (x : ClientDisk). Runs g c h sent x u (only (PutTable p) ∷ (keeps shape.after ++ last))) (sym here) (
-      seen_tied put put_plan (of_plan put put_is),
-      at_rest put put_plan put_is,
-      at_rest (applied p d) whole_plan whole_is,
-      tt,
-      tt,
-      unsent_runs sent (applied p d) u (keeps shape.after ++ last) (kept_runs (applied p d) refl),
-    )
+    -- a plan of a row and a position
+    module _ (none : p.alters ≡ None) where
+      abbrev put : ClientDisk
+      put = row_put d p.last p.table p.row
 
-    row_runs : (row : Option RowPut) → p.row ≡ row → Runs g c h sent d u (row_task p row ++ (table_task p p.position ++ (keeps shape.after ++ last)))
-    row_runs None at = table_runs d p.position refl (sym (ap (λ (x : Option RowPut). row_put d p.last p.table x) at))
-    row_runs (Some x) at = (
-      seen_tied d is tied,
-      at_rest d is k,
-      at_rest put put_plan put_is,
-      tt,
-      tt,
-      unsent_runs sent put u (table_task p p.position ++ (keeps shape.after ++ last)) (table_runs put p.position refl refl),
-    )
+      applied_is : (e : ClientDisk) → applied p e ≡ rows_applied p e
+      applied_is e = ap (λ (a : Option TableChange). applied_by p e a) none
+
+      both_applied : (e f : ClientDisk) → Alike (rows_applied p e) (rows_applied p f) → Alike (applied p e) (applied p f)
+      both_applied e f a = subst (λ (o : Option TableChange). Alike (applied_by p e o) (applied_by p f o)) (sym none) a
+
+      put_plan : put.plan ≡ Some p
+      put_plan = row_put_plan d p.last p.table p.row ∙ is
+
+      put_is : IsPlan g c h sent put u p
+      put_is = plan_alike sent d put u p (both_applied d put (alike_row p d)) k
+
+      whole_plan : (applied p d).plan ≡ Some p
+      whole_plan = ap (λ (e : ClientDisk). e.plan) (applied_is d) ∙ (table_put_plan put p.table p.position ∙ put_plan)
+
+      whole_is : IsPlan g c h sent (applied p d) u p
+      whole_is = subst (λ (e : ClientDisk). IsPlan g c h sent e u p) (sym (applied_is d)) (plan_alike sent put (rows_applied p d) u p (both_applied put (rows_applied p d) (alike_table p put)) put_is)
+
+      table_runs : (e : ClientDisk) (position : Option ℕ) → p.position ≡ position → e ≡ put → Runs g c h sent e u (table_task p position ++ (keeps shape.after ++ last))
+      table_runs e None at here = kept_runs whole_plan whole_is e (here ∙ sym (ap (λ (n : Option ℕ). table_put put p.table n) at) ∙ sym (applied_is d))
+      table_runs e (Some n) at here =
+          let there : put_of put p p.alters ≡ applied p d = ap (λ (a : Option TableChange). put_of put p a) none ∙ sym (applied_is d) in
+          subst (λ (x : ClientDisk). Runs g c h sent x u (only (PutTable p) ∷ (keeps shape.after ++ last))) (sym here) (
+            seen_tied put put_plan (of_plan put put_is),
+            at_rest put put_plan put_is,
+            subst (λ (x : ClientDisk). Rests g c h sent x u) (sym there) (at_rest (applied p d) whole_plan whole_is),
+            tt,
+            tt,
+            unsent_runs sent (put_of put p p.alters) u (keeps shape.after ++ last) (kept_runs whole_plan whole_is (put_of put p p.alters) there),
+          )
+
+      row_runs : (row : Option RowPut) → p.row ≡ row → Runs g c h sent d u (row_task p row ++ (table_task p p.position ++ (keeps shape.after ++ last)))
+      row_runs None at = table_runs d p.position refl (sym (ap (λ (x : Option RowPut). row_put d p.last p.table x) at))
+      row_runs (Some x) at = (
+        seen_tied d is tied,
+        at_rest d is k,
+        at_rest put put_plan put_is,
+        tt,
+        tt,
+        unsent_runs sent put u (table_task p p.position ++ (keeps shape.after ++ last)) (table_runs put p.position refl refl),
+      )
+
+    -- a table is opened or closed
+    module _ (change : TableChange) (some : p.alters ≡ Some change) where
+      altered_is : (e : ClientDisk) → applied p e ≡ altered e p.table change
+      altered_is e = ap (λ (a : Option TableChange). applied_by p e a) some
+
+      there_plan : (applied p d).plan ≡ Some p
+      there_plan = ap (λ (e : ClientDisk). e.plan) (altered_is d) ∙ (altered_plan d p.table change ∙ is)
+
+      there_is : IsPlan g c h sent (applied p d) u p
+      there_is =
+          let e : ClientDisk = altered d p.table change in
+          subst (λ (x : ClientDisk). IsPlan g c h sent x u p) (sym (altered_is d)) (plan_alike sent d e u p
+          (subst (λ (o : Option TableChange). Alike (applied_by p d o) (applied_by p e o)) (sym some) (alike_altered d p.table change)) k)
+
+      alter_runs : Runs g c h sent d u (only (PutTable p) ∷ (keeps shape.after ++ last))
+      alter_runs =
+          let there : put_of d p p.alters ≡ applied p d = ap (λ (a : Option TableChange). put_of d p a) some ∙ sym (altered_is d) in (
+            seen_tied d is tied,
+            at_rest d is k,
+            subst (λ (x : ClientDisk). Rests g c h sent x u) (sym there) (at_rest (applied p d) there_plan there_is),
+            tt,
+            tt,
+            unsent_runs sent (put_of d p p.alters) u (keeps shape.after ++ last) (kept_runs there_plan there_is (put_of d p p.alters) there),
+          )
+
+    puts_run : (a : Option TableChange) → p.alters ≡ a → Runs g c h sent d u (put_tasks p a (keeps shape.after ++ last))
+    puts_run None at = row_runs at p.row refl
+    puts_run (Some change) at = alter_runs change at
 
     pub rest_runs : Runs g c h sent d u (rest_of shape p sends)
-    rest_runs = row_runs p.row refl
+    rest_runs = puts_run p.alters refl
 
   -- ---- a whole plan, from an idle client on
 

@@ -15,7 +15,7 @@ use Rattle.step_tables.specs.Items.{latest}
 use Rattle.step_tables.proofs.Lists.{same_row_tells}
 use Rattle.client_laws.specs.Part.{Items, Sending, IsContent, RowTied, TableTied, IsOpened, Tied}
 use Rattle.client_laws.proofs.RowFits.{written_fit}
-use Rattle.client_laws.proofs.Disks.{opened_by, applied_at, applied_last, put_row_slots, rising-insert}
+use Rattle.client_laws.proofs.Disks.{opened_by, rows_applied_at, rows_applied_last, put_row_slots, rising-insert}
 
 -- what a row reads is at most the version of its last item
 pub read_latest : (g : Scheme) (c : ℕ) (h : List Stored) (table : ℕ) (row : List ℕ) (slots : Slots) (writes : List Write) (x : RowHeard) (sent : List Sending)
@@ -60,17 +60,17 @@ module _ (g : ℕ → Scheme) (c : ℕ) (h : Items) (sent : List Sending) (d : C
 
   module _ (last : ℕ) (row : Option RowPut) (position : Option ℕ) (fs : List ClientFact) where
     abbrev plan : Plan
-    plan = record { last = last; table = table; row = row; position = position; facts = fs }
+    plan = record { last = last; table = table; row = row; position = position; alters = None; facts = fs }
 
     table_here : table_at (applied plan d) table ≡ Some (opened_by plan o)
-    table_here = applied_at plan d table ∙ at_test (table == table) refl
+    table_here = rows_applied_at plan d table ∙ at_test (table == table) refl
       where
         at_test : (b : Bool) → (table == table) ≡ b → (if b then option_map (opened_by plan) (table_at d table) else table_at d table) ≡ Some (opened_by plan o)
         at_test true same = ap (λ (m : Option TableDisk). option_map (opened_by plan) m) is
         at_test false same = absurd (grind (arith, nat_tests, same))
 
     table_apart : (q : ℕ) → q ≢ table → table_at (applied plan d) q ≡ table_at d q
-    table_apart q apart = applied_at plan d q ∙ at_test (table == q) refl
+    table_apart q apart = rows_applied_at plan d q ∙ at_test (table == q) refl
       where
         at_test : (b : Bool) → (table == q) ≡ b → (if b then option_map (opened_by plan) (table_at d table) else table_at d q) ≡ table_at d q
         at_test true same = absurd (apart (grind (arith, nat_tests, same)))
@@ -157,9 +157,9 @@ module _ (g : ℕ → Scheme) (c : ℕ) (h : Items) (sent : List Sending) (d : C
     -- a row, and no position
     pub tied_row : (fs : List ClientFact) → ((i : Stored) → Among (h table) i → i.entry.version ≤ latest (h table) i.entry.row)
         → (t.at table row).read ≤ (u.at table row).read → u.position table ≡ t.position table
-        → Tied g c h sent (applied (record { last = last; table = table; row = Some (record { row = row; slots = slots }); position = None; facts = fs }) d) u
+        → Tied g c h sent (applied (record { last = last; table = table; row = Some (record { row = row; slots = slots }); position = None; alters = None; facts = fs }) d) u
     tied_row fs up_to rises stands = record {
-      last = applied_last (plan last (Some change) None fs) d ∙ numbers;
+      last = rows_applied_last (plan last (Some change) None fs) d ∙ numbers;
       rows = rows_after None fs (λ r. refl);
       tables = λ q. elim (by_table last (Some change) None fs q) [
         | inr apart ↦ tables_apart last (Some change) None fs u row other q apart
@@ -192,9 +192,9 @@ module _ (g : ℕ → Scheme) (c : ℕ) (h : Items) (sent : List Sending) (d : C
 
     -- a row and the position
     pub tied_row_at : (position : ℕ) (fs : List ClientFact) → TableTied (h table) table position u
-        → Tied g c h sent (applied (record { last = last; table = table; row = Some (record { row = row; slots = slots }); position = Some position; facts = fs }) d) u
+        → Tied g c h sent (applied (record { last = last; table = table; row = Some (record { row = row; slots = slots }); position = Some position; alters = None; facts = fs }) d) u
     tied_row_at position fs whole = record {
-      last = applied_last (plan last (Some change) (Some position) fs) d ∙ numbers;
+      last = rows_applied_last (plan last (Some change) (Some position) fs) d ∙ numbers;
       rows = rows_after (Some position) fs (λ r. refl);
       tables = λ q. elim (by_table last (Some change) (Some position) fs q) [
         | inr apart ↦ tables_apart last (Some change) (Some position) fs u row other q apart
@@ -208,9 +208,9 @@ module _ (g : ℕ → Scheme) (c : ℕ) (h : Items) (sent : List Sending) (d : C
 
   pub tied_position : (position : ℕ) (fs : List ClientFact) (u : Heard) → u.writes ≡ t.writes → ((q : ℕ) (r : List ℕ) → u.at q r ≡ t.at q r)
       → ((q : ℕ) → q ≢ table → u.position q ≡ t.position q) → TableTied (h table) table position u
-      → Tied g c h sent (applied (record { last = d.last; table = table; row = None; position = Some position; facts = fs }) d) u
+      → Tied g c h sent (applied (record { last = d.last; table = table; row = None; position = Some position; alters = None; facts = fs }) d) u
   tied_position position fs u writes at positions whole = record {
-    last = applied_last (plan d.last None (Some position) fs) d ∙ (k.last ∙ sym (ap (λ (ws : List Write). length ws) writes));
+    last = rows_applied_last (plan d.last None (Some position) fs) d ∙ (k.last ∙ sym (ap (λ (ws : List Write). length ws) writes));
     rows = λ q r.
         subst (λ (x : RowHeard). RowTied (g q) c (h q) q r (slots_of (applied (plan d.last None (Some position) fs) d) q r) u.writes x sent) (sym (at q r))
         (subst (λ (ws : List Write). RowTied (g q) c (h q) q r (slots_of (applied (plan d.last None (Some position) fs) d) q r) ws (t.at q r) sent) (sym writes)

@@ -21,7 +21,8 @@ use Rattle.step_tables.specs.Sayings.{Saying, SaysNothing, SaysWrite, SaysEntry,
 use Rattle.step_tables.specs.Sayings.{SaysConflict, SaysResolved, SaysRead, SaysPosition, saying, RowHeard, Heard, own}
 use Rattle.step_tables.specs.Sayings.{own_all, write_of, open_of, open_in}
 use Rattle.step_tables.specs.ClientMoves.{Slots, TableDisk, Plan, ClientDisk, ClientTask, Client, ClientStep}
-use Rattle.step_tables.specs.ClientMoves.{ClientMove, Take, Show, seen, applied, changed, told, retold}
+use Rattle.step_tables.specs.ClientMoves.{TableChange, Opens, Closes}
+use Rattle.step_tables.specs.ClientMoves.{ClientMove, Take, Show, Alter, seen, applied, changed, told, retold}
 use Rattle.step_tables.specs.ClientMoves.{slots_of, table_at, position_of, top, shown_in}
 use Rattle.step_tables.specs.Items.{latest, IsItemOf, IsItemAt, IsBase, IsYours, IsChange}
 use Rattle.world_tables.specs.Again.{may_repeat, IsUp}
@@ -381,7 +382,13 @@ IsMessage g c h sent (PullResponse pulled) = IsHeader c h pulled pulled.header
 IsMessage g c h sent (TornRowRequest torn) = Unit {0}
 IsMessage g c h sent (TornRowResponse answer) = IsTornHeader c (h answer.table) answer.header
 
+-- a table that is opened has the scheme of its table
+abbrev pub IsFairChange : Scheme → TableChange → Type 0
+IsFairChange g (Opens schema) = schema.scheme ≡ g
+IsFairChange g Closes = Unit {0}
+
 abbrev pub IsFair : (ℕ → Scheme) → ℕ → Items → List Sending → ClientMove → Type 0
+IsFair g c h sent (Alter table change) = IsFairChange (g table) change
 IsFair g c h sent (Take message) = IsMessage g c h sent message
 IsFair g c h sent other = Unit {0}
 

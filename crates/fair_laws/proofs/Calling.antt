@@ -18,9 +18,10 @@ use Rattle.step_tables.proofs.Lists.{among_none, among_cons, among_either}
 use Rattle.world_tables.specs.World.{World, Packet, WorldStep, has_node, schema_at, owner_of, client_at, still, is_down, is_cut, packets_from, after_client, move_there, move_client}
 use Rattle.world_tables.specs.World.{first_luck, other_lucks}
 use Rattle.world_tables.specs.World.{client_works, client_tasks, client_until_idle, client_follows, client_writes, starts_by, client_starts, client_falls, unless_down, refused, gets_tasks}
+use Rattle.world_tables.specs.World.{table_of_move, is_closed, closed_answer, unless_closed}
 use Rattle.world_tables.specs.World.{is_resolving, unless_cut, unless_kept, calls, call_there, reads, with_phases, and_then, and_unless, Moved, listed, first_shape, other_shapes, chosen_of}
 use Rattle.world_tables.specs.World.{client_pairs, resolve_by, plan_size, resolve_each, resolve_all}
-use Rattle.fair_laws.specs.Fair.{IsFairRequest, AreFairSends, IsFairClient, IsFairStep}
+use Rattle.fair_laws.specs.Fair.{IsFairRequest, AreFairSends, OpensKnown, IsFairClient, IsFairStep}
 use Rattle.fair_laws.specs.Worlds.{IsFairMessage, IsFair}
 use Rattle.fair_laws.proofs.Fairness.{step_fair}
 use Rattle.fair_laws.proofs.Hosting.{beside_fair, some_after, all_after}
@@ -53,22 +54,22 @@ after_fair w c there s at f fair = record {
       (among_either w.packets (packets_from (owner_of w) (nodes.Client c) s.sends) p a);
 }
 
-pub client_fair : (w : World) (c : ℕ) (move : ClientMove) (shape : Shape) → IsFair w → IsFair (move_client c move shape w).world
-client_fair w c move shape f = go (client_at w c) refl
+pub client_fair : (w : World) (c : ℕ) (move : ClientMove) (shape : Shape) → OpensKnown (schema_at w) move → IsFair w → IsFair (move_client c move shape w).world
+client_fair w c move shape opens f = go (client_at w c) refl
   where
     go : (o : Option Client) → client_at w c ≡ o → IsFair (move_there w c move shape o).world
     go None at = f
     go (Some node) at =
         let s : ClientStep = client_step c shape node move in
         after_fair (with_phases w c move s) c node s at (beside_fair w w.holds w.downs w.cuts (phases_by c move s.answer s.client.agenda w.phases) f)
-        (step_fair (schema_at w) c shape node move (f.clients c node at))
+        (step_fair (schema_at w) c shape node move opens (f.clients c node at))
 
 -- ---- the work that follows, and a start
 
 pub client_works_fair : (c : ℕ) (tasks : List ClientTask) (lucks : List Luck) (w : World) → IsFair w → IsFair (client_works c tasks lucks w).world
 client_works_fair c [] lucks w f = f
 client_works_fair c (task ∷ tasks) lucks w f =
-    client_works_fair c tasks (other_lucks lucks) (move_client c (client.Work (first_luck lucks)) no_shape w).world (client_fair w c (client.Work (first_luck lucks)) no_shape f)
+    client_works_fair c tasks (other_lucks lucks) (move_client c (client.Work (first_luck lucks)) no_shape w).world (client_fair w c (client.Work (first_luck lucks)) no_shape tt f)
 
 client_follows_fair : (c : ℕ) (lucks : List Luck) (w : World) → IsFair w → IsFair (client_follows c lucks w).world
 client_follows_fair c lucks w f = go (has_node w.holds (nodes.Client c))
@@ -79,18 +80,18 @@ client_follows_fair c lucks w f = go (has_node w.holds (nodes.Client c))
 
 pub client_writes_fair : (c : ℕ) (luck : Luck) (tasks : List ClientTask) (w : World) → IsFair w → IsFair (client_writes c luck tasks w).world
 client_writes_fair c luck [] w f = f
-client_writes_fair c luck (task ∷ tasks) w f = client_fair w c (client.Work luck) no_shape f
+client_writes_fair c luck (task ∷ tasks) w f = client_fair w c (client.Work luck) no_shape tt f
 
 pub client_starts_fair : (c : ℕ) (shape : Shape) (lucks : List Luck) (w : World) → IsFair w → IsFair (client_starts c shape lucks w).world
 client_starts_fair c shape lucks w f = go (first_luck lucks)
   where
     go : (luck : Luck) → IsFair (starts_by c shape luck (other_lucks lucks) w).world
-    go messages.Done = client_follows_fair c (other_lucks lucks) (move_client c client.Start shape w).world (client_fair w c client.Start shape f)
+    go messages.Done = client_follows_fair c (other_lucks lucks) (move_client c client.Start shape w).world (client_fair w c client.Start shape tt f)
     go messages.FailedBefore = f
     go messages.FailedAfter = f
 
 client_falls_fair : (c : ℕ) (w : World) → IsFair w → IsFair (client_falls c w).world
-client_falls_fair c w f = client_fair w c (client.Crash messages.FailedBefore) no_shape f
+client_falls_fair c w f = client_fair w c (client.Crash messages.FailedBefore) no_shape tt f
 
 -- ---- a call
 
@@ -101,15 +102,16 @@ unless_down_fair w f node s there = go (is_down w node)
     go true = f
     go false = there
 
-pub call_fair : (w : World) → IsFair w → (c : ℕ) (move : ClientMove) (shape : Shape) (lucks : List Luck) (o : Option Client) → IsFair (call_there w c move shape lucks o).world
-call_fair w f c move shape lucks None = f
-call_fair w f c move shape lucks (Some node) = unless_down_fair w f (nodes.Client c) _ (read (first_luck lucks))
+pub call_fair : (w : World) → IsFair w → (c : ℕ) (move : ClientMove) (shape : Shape) (lucks : List Luck) (o : Option Client) → OpensKnown (schema_at w) move
+    → IsFair (call_there w c move shape lucks o).world
+call_fair w f c move shape lucks None opens = f
+call_fair w f c move shape lucks (Some node) opens = unless_down_fair w f (nodes.Client c) _ (read (first_luck lucks))
   where
     v : World
     v = (move_client c move shape w).world
 
     moved : IsFair v
-    moved = client_fair w c move shape f
+    moved = client_fair w c move shape opens f
 
     follows : (b : Bool) → IsFair (if b then client_follows c (other_lucks lucks) v else still v).world
     follows true = client_follows_fair c (other_lucks lucks) v moved
@@ -126,8 +128,18 @@ call_fair w f c move shape lucks (Some node) = unless_down_fair w f (nodes.Clien
     by_phase None = by_link (is_cut w c && is_cut_off c shape node move)
     by_phase (Some refusal) = f
 
-    read : (luck : Luck) → IsFair (reads w c luck (unless_kept w (kept_out (is_resolving w c) move (client_step c shape node move).answer) linked)).world
-    read messages.Done = by_phase (kept_out (is_resolving w c) move (client_step c shape node move).answer)
+    kept : WorldStep
+    kept = unless_kept w (kept_out (is_resolving w c) move (client_step c shape node move).answer) linked
+
+    answer : Answer
+    answer = closed_answer shape (is_cut w c) node.agenda move
+
+    if_closed : (closed : Bool) → IsFair (unless_closed w closed answer kept).world
+    if_closed true = f
+    if_closed false = by_phase (kept_out (is_resolving w c) move (client_step c shape node move).answer)
+
+    read : (luck : Luck) → IsFair (reads w c luck (unless_closed w (is_closed node (table_of_move move)) answer kept)).world
+    read messages.Done = if_closed (is_closed node (table_of_move move))
     read messages.FailedBefore = client_falls_fair c w f
     read messages.FailedAfter = client_falls_fair c w f
 
@@ -161,7 +173,7 @@ unless_fair m next f goes = by_failure m.failed
 
 module _ (c table : ℕ) (by : Stored) where
   resolve_by_fair : (shape : Shape) (pair : RowPair) (luck : Luck) (w : World) → IsFair w → IsFair (resolve_by c table by shape pair luck w).world
-  resolve_by_fair shape pair messages.Done w f = client_fair w c (client.Resolve table pair.row pair.version (chosen_of by pair.row (client_at w c) table)) shape f
+  resolve_by_fair shape pair messages.Done w f = client_fair w c (client.Resolve table pair.row pair.version (chosen_of by pair.row (client_at w c) table)) shape tt f
   resolve_by_fair shape pair messages.FailedBefore w f = client_falls_fair c w f
   resolve_by_fair shape pair messages.FailedAfter w f = client_falls_fair c w f
 

@@ -8,12 +8,13 @@ use Rattle.std.specs.BTreeMap.{is_at, insert_entry}
 use Rattle.stab_base.specs.declared.node.Node.{Node}
 use Rattle.row_value.specs.declared.schema.Schema.{Schema}
 use Rattle.row_store.specs.Spelling.{IsClient}
+use Rattle.table_model.specs.declared.table_state.TableState.{TableState}
 use Rattle.step_tables.specs.ClientMoves.{Client}
 use Rattle.step_tables.specs.Messages.{Message, Luck, SyncRequest, SyncResponse, PullRequest, PullResponse, TornRowRequest, TornRowResponse}
 use Rattle.step_tables.specs.Messages as messages
-use Rattle.step_tables.specs.StoreMoves.{TableStore}
+use Rattle.step_tables.specs.StoreMoves.{new_disk}
 use Rattle.step_tables.proofs.Lists.{lookup-insert}
-use Rattle.world_tables.specs.World.{World, Hosted, schema_at, hosted_at, agenda_of, with_table, made_with, declared, joined, open_all, new_client, first_agenda}
+use Rattle.world_tables.specs.World.{World, Hosted, schema_at, hosted_at, agenda_of, new_hosted, with_table, made_with, declared, joined, open_all, new_client, first_agenda}
 use Rattle.fair_laws.specs.Fair.{IsFairClient}
 use Rattle.fair_laws.specs.Reached.{IsMade}
 use Rattle.fair_laws.specs.Worlds.{IsFairMessage, IsFairStore, IsFair}
@@ -39,15 +40,12 @@ message_more known more is from (TornRowResponse q) f = (header_more known more 
 -- ---- a table more
 
 module _ (w : World) (f : IsFair w) (table : ℕ) (schema : Schema) (is_made : IsMade table schema) where
-  module _ (none : hosted_at w table ≡ None) (made : Bool) where
-    abbrev new_store : TableStore
-    new_store = record { disk = record { items = []; pending = None; left = [] }; agenda = agenda_of made }
-
+  module _ (state : TableState) (none : hosted_at w table ≡ None) (made : Bool) where
     abbrev new_table : Hosted
-    new_table = record { store = new_store; history = []; made = made }
+    new_table = new_hosted state made
 
     abbrev after : World
-    after = with_table w table schema made
+    after = with_table w table schema state made
 
     unknown : schema_at w table ≡ None
     unknown = nothing_at (schema_at w table) (f.both table ∙ ap (λ (o : Option Hosted). is_some o) none)
@@ -65,9 +63,9 @@ module _ (w : World) (f : IsFair w) (table : ℕ) (schema : Schema) (is_made : I
         go true e = let same : Some s ≡ None = sym at ∙ (ap (λ (k : ℕ). schema_at w k) (sym (at_same table q e)) ∙ unknown) in absurd cc
         go false e = at
 
-    new_is_fair : (b : Bool) → IsFairStore (schema_at after) table (record { disk = record { items = []; pending = None; left = [] }; agenda = agenda_of b })
-    new_is_fair true = none_fair (schema_at after) table (Some []) tt
-    new_is_fair false = none_fair (schema_at after) table None tt
+    new_is_fair : (b : Bool) → IsFairStore (schema_at after) table (record { disk = new_disk state; agenda = agenda_of b })
+    new_is_fair true = none_fair (schema_at after) table state (Some []) tt
+    new_is_fair false = none_fair (schema_at after) table state None tt
 
     with_fair : IsFair after
     with_fair = record {
@@ -84,14 +82,14 @@ module _ (w : World) (f : IsFair w) (table : ℕ) (schema : Schema) (is_made : I
         go q true = refl
         go q false = f.both q
 
-  pub declared_fair : (luck : Luck) (o : Option Hosted) → hosted_at w table ≡ o → IsFair (declared w table schema luck o)
-  declared_fair luck (Some hosted) at = f
-  declared_fair luck None at = go luck
+  pub declared_fair : (state : TableState) (luck : Luck) (o : Option Hosted) → hosted_at w table ≡ o → IsFair (declared w table schema state luck o)
+  declared_fair state luck (Some hosted) at = f
+  declared_fair state luck None at = go luck
     where
-      go : (x : Luck) → IsFair (made_with w table schema x)
-      go messages.Done = with_fair at true
-      go messages.FailedBefore = with_fair at false
-      go messages.FailedAfter = with_fair at false
+      go : (x : Luck) → IsFair (made_with w table schema state x)
+      go messages.Done = with_fair state at true
+      go messages.FailedBefore = with_fair state at false
+      go messages.FailedAfter = with_fair state at false
 
 -- ---- a client more
 

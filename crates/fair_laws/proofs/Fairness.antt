@@ -30,19 +30,20 @@ use Rattle.step_tables.specs.Facts as facts
 use Rattle.step_tables.specs.Messages.{Response, Pulled, Header, Outcome, Message, Send, Luck, SyncRequest, SyncResponse, PullRequest, PullResponse}
 use Rattle.step_tables.specs.Messages.{TornPulled, TornRowRequest, TornRowResponse}
 use Rattle.step_tables.specs.Messages as messages
-use Rattle.step_tables.specs.ClientMoves.{Slots, TableDisk, RowPut, Plan, ClientDisk, ClientChange, ClientTask, Client, ClientMove, ClientStep, Shape, Placed, RowOut, Commit, PutRow, PutTable, Finish, Keep}
-use Rattle.step_tables.specs.ClientMoves.{no_slots, or_none, slots_at, table_at, with_table, put_row, put_position, row_put, table_put, planned_in, seen, changed, quiet, done, crashed, failed, worked, only, row_task, table_task, keeps, rest_of, planning, begun, slots_plan}
+use Rattle.step_tables.specs.ClientMoves.{Slots, TableDisk, TableChange, Opens, Closes, RowPut, Plan, ClientDisk, ClientChange, ClientTask, Client, ClientMove, ClientStep, Shape, Placed, RowOut, Commit, PutRow, PutTable, Finish, Keep}
+use Rattle.step_tables.specs.ClientMoves.{no_slots, or_none, slots_at, table_at, with_table, put_row, put_position, row_put, table_put, opened_table, open_table, close_table, altered, applied_by, applied, put_of, planned_in, seen, changed, quiet, done, crashed, failed, worked, only, row_task, table_task, put_tasks, keeps, rest_of, planning, begun, slots_plan}
 use Rattle.step_tables.specs.ClientMoves.{ending, opening, resumed, started, request_for, pull_from, main_of, write_plan, out_of, strong_out, strong_plan, first_out, write_strong, write_by, write_free, write_idle, write_fitting, write_to, write_step, edit_made, edit_over, edit_in, content_of, shown_in, edit_step}
 use Rattle.step_tables.specs.ClientMoves.{resent, to_send, or_later, first_to_send, row_out, send_plan, sync_first, sync_in, sync_step, next_in, next_step, over_plan, theirs_plan, over_fitting, choose, resolve_over, resolve_in, resolve_step, without, freed, shadow_at, ack_plan, lost_plan, whole_out, whole_plan, outcome_taken, response_taken, response_in}
 use Rattle.step_tables.specs.ClientMoves.{conflicts_in, phase_in, can_resolve, all_idle, all_fitting, all_in, pairs_of, read_new, read_conflict, reads_over, is_weak, placed, row_placed, next_pull, row_plan, position_plan, row_taken, top, comes_next, pulled_taken, pulled_in, take_step, client_step}
-use Rattle.step_tables.specs.ClientMoves.{ignored, torn_from, next_from, torn_plan, torn_row_taken, torn_taken, torn_in}
+use Rattle.step_tables.specs.ClientMoves.{may_alter, alter_plan, alter_in, ignored, torn_from, next_from, torn_plan, torn_row_taken, torn_taken, torn_in}
 use Rattle.step_tables.specs.ClientMoves as client
 use Rattle.step_tables.specs.Chunks.{is_named}
 use Rattle.step_tables.proofs.Lists.{lookup-insert}
 use Rattle.std.proofs.lemmas.Bool.{eqb-true}
 use Rattle.std.specs.Cmp.{unsigned_tied}
-use Rattle.world_tables.specs.World.{World, schema_at, tasks_in, opened, with_opened, open_all, new_client}
-use Rattle.fair_laws.specs.Fair.{IsFitContent, IsFairSlots, IsFairRow, IsFairTable, IsFairPut, IsFairPlan, IsFairDisk, IsFairRequest, AreFairSends, IsFairChange, IsFairTask, IsFairClient, IsFairStep}
+use Rattle.world_tables.specs.World.{World, schema_at, tasks_in, with_opened, open_all, new_client}
+use Rattle.fair_laws.specs.Fair.{IsFitContent, IsFairSlots, IsFairRow, IsFairTable, IsFairPut, IsFairAlter, IsFairPlanBy, IsFairPlan, IsFairDisk, IsFairRequest, AreFairSends, IsFairChange, IsFairTask}
+use Rattle.fair_laws.specs.Fair.{OpensKnown, IsFairClient, IsFairStep}
 
 -- ---- lists and maps
 
@@ -118,14 +119,30 @@ module _ (known : ℕ → Option Schema) (c : ℕ) where
   table_put_fair d number None a = a
   table_put_fair d number (Some position) a = with_fair d d.last number (table_at d number) (put_position position) refl (λ t k. record { schema = k.schema; rows = k.rows }) a
 
+  altered_fair : (d : ClientDisk) (number : ℕ) (change : TableChange) → IsFairAlter (known number) change → AreFair d.tables → AreFair (altered d number change).tables
+  altered_fair d number (Opens schema) is a = go (table_at d number)
+    where
+      go : (o : Option TableDisk) → AreFair (open_table d number schema o).tables
+      go None = put_fair d.tables number (opened_table schema) (record { schema = is; rows = tt }) a
+      go (Some t) = a
+  altered_fair d number Closes is a = with_fair d d.last number (table_at d number) close_table refl (λ t k. record { schema = k.schema; rows = k.rows }) a
+
+  applied_fair : (d : ClientDisk) (p : Plan) (o : Option TableChange) → IsFairPlanBy known p o → AreFair d.tables → AreFair (applied_by p d o).tables
+  applied_fair d p None f a = table_put_fair (row_put d p.last p.table p.row) p.table p.position (row_put_fair d p.last p.table p.row f a)
+  applied_fair d p (Some change) f a = altered_fair d p.table change f a
+
+  put_of_fair : (d : ClientDisk) (p : Plan) (o : Option TableChange) → IsFairPlanBy known p o → AreFair d.tables → AreFair (put_of d p o).tables
+  put_of_fair d p None f a = table_put_fair d p.table p.position a
+  put_of_fair d p (Some change) f a = altered_fair d p.table change f a
+
   pub tables_seen : (d : ClientDisk) → IsFairDisk known d → AreFair (seen d).tables
   tables_seen d k = go d.plan k.plan
     where
       go : (o : Option Plan) → ((p : Plan) → o ≡ Some p → IsFairPlan known p) → AreFair (planned_in d o).tables
       go None plan = k.tables
-      go (Some p) plan = table_put_fair (row_put d p.last p.table p.row) p.table p.position (row_put_fair d p.last p.table p.row (plan p refl) k.tables)
+      go (Some p) plan = applied_fair d p p.alters (plan p refl) k.tables
 
-  pub row_plan_is : (d : ClientDisk) (last number : ℕ) (o : Option RowPut) → (row_put d last number o).plan ≡ d.plan
+  row_plan_is : (d : ClientDisk) (last number : ℕ) (o : Option RowPut) → (row_put d last number o).plan ≡ d.plan
   row_plan_is d last number None = refl
   row_plan_is d last number (Some x) = go (table_at d number)
     where
@@ -133,7 +150,7 @@ module _ (known : ℕ → Option Schema) (c : ℕ) where
       go None = refl
       go (Some t) = refl
 
-  pub table_plan_is : (d : ClientDisk) (number : ℕ) (o : Option ℕ) → (table_put d number o).plan ≡ d.plan
+  table_plan_is : (d : ClientDisk) (number : ℕ) (o : Option ℕ) → (table_put d number o).plan ≡ d.plan
   table_plan_is d number None = refl
   table_plan_is d number (Some position) = go (table_at d number)
     where
@@ -141,12 +158,36 @@ module _ (known : ℕ → Option Schema) (c : ℕ) where
       go None = refl
       go (Some t) = refl
 
+  altered_plan_is : (d : ClientDisk) (number : ℕ) (change : TableChange) → (altered d number change).plan ≡ d.plan
+  altered_plan_is d number (Opens schema) = go (table_at d number)
+    where
+      go : (t : Option TableDisk) → (open_table d number schema t).plan ≡ d.plan
+      go None = refl
+      go (Some t) = refl
+  altered_plan_is d number Closes = go (table_at d number)
+    where
+      go : (t : Option TableDisk) → (with_table d number t close_table).plan ≡ d.plan
+      go None = refl
+      go (Some t) = refl
+
+  put_plan_is : (d : ClientDisk) (p : Plan) (o : Option TableChange) → (put_of d p o).plan ≡ d.plan
+  put_plan_is d p None = table_plan_is d p.table p.position
+  put_plan_is d p (Some change) = altered_plan_is d p.table change
+
+  -- what a plan does changes no plan
+  pub applied_plan_is : (d : ClientDisk) (p : Plan) → (applied p d).plan ≡ d.plan
+  applied_plan_is d p = go p.alters
+    where
+      go : (o : Option TableChange) → (applied_by p d o).plan ≡ d.plan
+      go None = table_plan_is (row_put d p.last p.table p.row) p.table p.position ∙ row_plan_is d p.last p.table p.row
+      go (Some change) = altered_plan_is d p.table change
+
   -- ---- device writes
 
   changed_fair : (d : ClientDisk) (change : ClientChange) → IsFairDisk known d → IsFairChange known change → IsFairDisk known (changed d change)
   changed_fair d (Commit p) k f = record { tables = k.tables; plan = λ q e. let same : p ≡ q = cc in subst (IsFairPlan known) same f }
   changed_fair d (PutRow p) k f = record { tables = row_put_fair d p.last p.table p.row f k.tables; plan = λ q e. k.plan q (sym (row_plan_is d p.last p.table p.row) ∙ e) }
-  changed_fair d (PutTable p) k f = record { tables = table_put_fair d p.table p.position k.tables; plan = λ q e. k.plan q (sym (table_plan_is d p.table p.position) ∙ e) }
+  changed_fair d (PutTable p) k f = record { tables = put_of_fair d p p.alters f k.tables; plan = λ q e. k.plan q (sym (put_plan_is d p p.alters) ∙ e) }
   changed_fair d Finish k f = record { tables = k.tables; plan = λ q e. absurd cc }
   changed_fair d (Keep step) k f = k
 
@@ -157,20 +198,24 @@ module _ (known : ℕ → Option Schema) (c : ℕ) where
   keeps_fair [] = tt
   keeps_fair (step ∷ steps) = ((tt, tt), keeps_fair steps)
 
-  row_task_fair : (p : Plan) (o : Option RowPut) → IsFairPlan known p → AreFairTasks (row_task p o)
+  row_task_fair : (p : Plan) (o : Option RowPut) → IsFairPut (known p.table) p.row → AreFairTasks (row_task p o)
   row_task_fair p None k = tt
   row_task_fair p (Some x) k = ((k, tt), tt)
 
-  table_task_fair : (p : Plan) (o : Option ℕ) → AreFairTasks (table_task p o)
-  table_task_fair p None = tt
-  table_task_fair p (Some position) = ((tt, tt), tt)
+  table_task_fair : (p : Plan) (o : Option ℕ) → IsFairPlan known p → AreFairTasks (table_task p o)
+  table_task_fair p None k = tt
+  table_task_fair p (Some position) k = ((k, tt), tt)
+
+  puts_fair : (p : Plan) → IsFairPlan known p → (more : List ClientTask) → AreFairTasks more → (o : Option TableChange) → IsFairPlanBy known p o → AreFairTasks (put_tasks p o more)
+  puts_fair p k more rest None row =
+      all_append (IsFairTask known c) (row_task p p.row) (table_task p p.position ++ more) (row_task_fair p p.row row)
+      (all_append (IsFairTask known c) (table_task p p.position) more (table_task_fair p p.position k) rest)
+  puts_fair p k more rest (Some change) row = ((k, tt), rest)
 
   rest_fair : (shape : Shape) (p : Plan) (sends : List Send) → IsFairPlan known p → AreFairSends known c sends → AreFairTasks (rest_of shape p sends)
   rest_fair shape p sends k s =
-      let P : ClientTask → Type 0 = IsFairTask known c in
       let end : List ClientTask = record { change = Finish; facts = []; sends = sends } ∷ [] in
-      all_append P (row_task p p.row) (table_task p p.position ++ (keeps shape.after ++ end)) (row_task_fair p p.row k)
-      (all_append P (table_task p p.position) (keeps shape.after ++ end) (table_task_fair p p.position) (all_append P (keeps shape.after) end (keeps_fair shape.after) ((tt, s), tt)))
+      puts_fair p k (keeps shape.after ++ end) (all_append (IsFairTask known c) (keeps shape.after) end (keeps_fair shape.after) ((tt, s), tt)) p.alters k
 
   planning_fair : (shape : Shape) (p : Plan) (sends : List Send) → IsFairPlan known p → AreFairSends known c sends → AreFairTasks (planning shape p sends)
   planning_fair shape p sends k s =
@@ -551,6 +596,17 @@ module _ (known : ℕ → Option Schema) (c : ℕ) where
     take_fair [] a (TornRowRequest q) = idle_fair facts.Done
     take_fair [] a (TornRowResponse q) = torn_fair q (table_at (seen d) q.table) (λ t e. tables_seen d k q.table t e)
 
+    -- ---- a table is opened or closed
+
+    alter_fair : (agenda : List ClientTask) → AreFairTasks agenda → (table : ℕ) (change : TableChange) → IsFairAlter (known table) change
+        → IsFairStep known c (alter_in c shape d agenda table change)
+    alter_fair (task ∷ more) a table change is = quiet_fair d (Some (task ∷ more)) (facts.Refuses (facts.Busy shape.plan)) k a
+    alter_fair [] a table change is = go (may_alter change (table_at (seen d) table))
+      where
+        go : (b : Bool) → IsFairStep known c (if b then begun shape d facts.Done (alter_plan c d table change) [] else ignored d)
+        go true = begun_fair shape d facts.Done (alter_plan c d table change) [] k is tt
+        go false = idle_fair facts.Done
+
     -- ---- writes, crashes and starts
 
     crashed_fair : (agenda : Option (List ClientTask)) → AreFairTasks (tasks_in agenda) → (luck : Luck) → IsFairStep known c (crashed d agenda luck)
@@ -586,22 +642,23 @@ module _ (known : ℕ → Option Schema) (c : ℕ) where
   -- ---- every move
 
   module _ (shape : Shape) (d : ClientDisk) (k : IsFairDisk known d) where
-    up_fair : (agenda : List ClientTask) → AreFairTasks agenda → (move : ClientMove) → IsFairStep known c (client_step c shape (record { disk = d; agenda = Some agenda }) move)
-    up_fair agenda a (client.Write table row content) = write_in_fair shape d k agenda a table row content (table_at (seen d) table) (λ t e. tables_seen d k table t e)
-    up_fair agenda a (client.Change table row edit) = edit_in_fair shape d k agenda a table row edit (table_at (seen d) table) (λ t e. tables_seen d k table t e)
-    up_fair agenda a (client.Show table row) = quiet_fair d (Some agenda) _ k a
-    up_fair agenda a (client.Sum table row) = quiet_fair d (Some agenda) _ k a
-    up_fair agenda a (client.Sync table) = sync_in_fair shape d k agenda a table (table_at (seen d) table) (λ t e. tables_seen d k table t e)
-    up_fair agenda a (client.Next table tears asks) = next_in_fair shape d k agenda a table tears asks (table_at (seen d) table)
-    up_fair agenda a (client.BeginCr table) = phase_in_fair shape d k agenda a (table_at (seen d) table)
-    up_fair agenda a (client.Conflicts table) = conflicts_in_fair shape d k agenda a (table_at (seen d) table)
-    up_fair agenda a (client.EndCr table) = phase_in_fair shape d k agenda a (table_at (seen d) table)
-    up_fair agenda a (client.ResolveAll table by) = all_in_fair shape d k agenda a by (table_at (seen d) table)
-    up_fair agenda a (client.Resolve table row version choice) = resolve_in_fair shape d k agenda a table row version choice (table_at (seen d) table) (λ t e. tables_seen d k table t e)
-    up_fair agenda a (client.Take m) = take_fair shape d k agenda a m
-    up_fair agenda a (client.Work luck) = worked_fair shape d k (Some agenda) a luck
-    up_fair agenda a (client.Crash luck) = crashed_fair shape d k (Some agenda) a luck
-    up_fair agenda a client.Start = started_fair shape d k (Some agenda) a
+    up_fair : (agenda : List ClientTask) → AreFairTasks agenda → (move : ClientMove) → OpensKnown known move → IsFairStep known c (client_step c shape (record { disk = d; agenda = Some agenda }) move)
+    up_fair agenda a (client.Write table row content) opens = write_in_fair shape d k agenda a table row content (table_at (seen d) table) (λ t e. tables_seen d k table t e)
+    up_fair agenda a (client.Change table row edit) opens = edit_in_fair shape d k agenda a table row edit (table_at (seen d) table) (λ t e. tables_seen d k table t e)
+    up_fair agenda a (client.Show table row) opens = quiet_fair d (Some agenda) _ k a
+    up_fair agenda a (client.Sum table row) opens = quiet_fair d (Some agenda) _ k a
+    up_fair agenda a (client.Sync table) opens = sync_in_fair shape d k agenda a table (table_at (seen d) table) (λ t e. tables_seen d k table t e)
+    up_fair agenda a (client.Next table tears asks) opens = next_in_fair shape d k agenda a table tears asks (table_at (seen d) table)
+    up_fair agenda a (client.BeginCr table) opens = phase_in_fair shape d k agenda a (table_at (seen d) table)
+    up_fair agenda a (client.Conflicts table) opens = conflicts_in_fair shape d k agenda a (table_at (seen d) table)
+    up_fair agenda a (client.EndCr table) opens = phase_in_fair shape d k agenda a (table_at (seen d) table)
+    up_fair agenda a (client.ResolveAll table by) opens = all_in_fair shape d k agenda a by (table_at (seen d) table)
+    up_fair agenda a (client.Resolve table row version choice) opens = resolve_in_fair shape d k agenda a table row version choice (table_at (seen d) table) (λ t e. tables_seen d k table t e)
+    up_fair agenda a (client.Alter table change) opens = alter_fair shape d k agenda a table change opens
+    up_fair agenda a (client.Take m) opens = take_fair shape d k agenda a m
+    up_fair agenda a (client.Work luck) opens = worked_fair shape d k (Some agenda) a luck
+    up_fair agenda a (client.Crash luck) opens = crashed_fair shape d k (Some agenda) a luck
+    up_fair agenda a client.Start opens = started_fair shape d k (Some agenda) a
 
     down_fair : (move : ClientMove) → IsFairStep known c (client_step c shape (record { disk = d; agenda = None }) move)
     down_fair (client.Write table row content) = quiet_fair d None (facts.Refuses facts.Down) k tt
@@ -618,15 +675,17 @@ module _ (known : ℕ → Option Schema) (c : ℕ) where
     down_fair (client.Take m) = quiet_fair d None (facts.Refuses facts.Down) k tt
     down_fair (client.Work luck) = worked_fair shape d k None tt luck
     down_fair (client.Crash luck) = crashed_fair shape d k None tt luck
+    down_fair (client.Alter table change) = quiet_fair d None (facts.Refuses facts.Down) k tt
     down_fair client.Start = started_fair shape d k None tt
 
-pub step_fair : (known : ℕ → Option Schema) (c : ℕ) (shape : Shape) (s : Client) (move : ClientMove) → IsFairClient known c s → IsFairStep known c (client_step c shape s move)
-step_fair known c shape s move f = go s.disk s.agenda f.disk f.tasks
+pub step_fair : (known : ℕ → Option Schema) (c : ℕ) (shape : Shape) (s : Client) (move : ClientMove) → OpensKnown known move → IsFairClient known c s
+    → IsFairStep known c (client_step c shape s move)
+step_fair known c shape s move opens f = go s.disk s.agenda f.disk f.tasks
   where
     go : (d : ClientDisk) (agenda : Option (List ClientTask)) → IsFairDisk known d → AllByRecursion (IsFairTask known c) (tasks_in agenda)
         → IsFairStep known c (client_step c shape (record { disk = d; agenda = agenda }) move)
     go d None k a = down_fair known c shape d k move
-    go d (Some tasks) k a = up_fair known c shape d k tasks a move
+    go d (Some tasks) k a = up_fair known c shape d k tasks a move opens
 
 -- ---- where more is known
 
@@ -634,6 +693,11 @@ module _ (known more : ℕ → Option Schema) (c : ℕ) (is : (number : ℕ) (sc
   put_more : (number : ℕ) (o : Option RowPut) → IsFairPut (known number) o → IsFairPut (more number) o
   put_more number None p = tt
   put_more number (Some x) p = (p.0, is number p.0 p.1, p.2)
+
+  plan_more : (p : Plan) (o : Option TableChange) → IsFairPlanBy known p o → IsFairPlanBy more p o
+  plan_more p None f = put_more p.table p.row f
+  plan_more p (Some (Opens schema)) f = is p.table schema f
+  plan_more p (Some Closes) f = tt
 
   request_more : (m : Message) → IsFairRequest known c m → IsFairRequest more c m
   request_more (SyncRequest q) r = (r.0, r.1, is q.table r.1 r.2, r.3)
@@ -648,9 +712,9 @@ module _ (known more : ℕ → Option Schema) (c : ℕ) (is : (number : ℕ) (sc
   sends_more (send ∷ sends) a = (request_more send.message a.0, sends_more sends a.1)
 
   change_more : (change : ClientChange) → IsFairChange known change → IsFairChange more change
-  change_more (Commit p) f = put_more p.table p.row f
+  change_more (Commit p) f = plan_more p p.alters f
   change_more (PutRow p) f = put_more p.table p.row f
-  change_more (PutTable p) f = tt
+  change_more (PutTable p) f = plan_more p p.alters f
   change_more Finish f = tt
   change_more (Keep step) f = tt
 
@@ -662,7 +726,7 @@ module _ (known more : ℕ → Option Schema) (c : ℕ) (is : (number : ℕ) (sc
   client_more s f = record {
     disk = record {
       tables = λ number table e. let t = f.disk.tables number table e in record { schema = is number table.schema t.schema; rows = t.rows };
-      plan = λ p e. put_more p.table p.row (f.disk.plan p e);
+      plan = λ p e. plan_more p p.alters (f.disk.plan p e);
     };
     tasks = tasks_more (tasks_in s.agenda) f.tasks;
   }
@@ -675,7 +739,7 @@ open_fair w some (table ∷ tables) a = open_fair w (with_opened some table (sch
   where
     go : (o : Option Schema) → schema_at w table ≡ o → AreFair (schema_at w) 0 (with_opened some table o)
     go None e = a
-    go (Some schema) e = put_fair (schema_at w) 0 some table (opened schema) (record { schema = e; rows = tt }) a
+    go (Some schema) e = put_fair (schema_at w) 0 some table (opened_table schema) (record { schema = e; rows = tt }) a
 
 pub new_fair : (w : World) (c : ℕ) (tables : List ℕ) → IsFairClient (schema_at w) c (new_client (open_all w [] tables) (Some []))
 new_fair w c tables = record {

@@ -154,9 +154,10 @@ start_fair : (w : World) (table : ℕ) → IsFair w → IsFair (start_hosted w t
 start_fair w table f = go (hosted_at w table) refl
   where
     made : (hosted : Hosted) (b : Bool) → hosted_at w table ≡ Some hosted
-        → IsFair (if b then move_table table store.Start w else after_table w table (record hosted { made = true }) (declared_late (owner_of w table) table)).world
+        → IsFair (if b then move_table table store.Start w else after_table w table (record hosted { made = true }) (declared_late (owner_of w table) table hosted.store.disk.state)).world
     made hosted true at = table_fair w table store.Start tt f
-    made hosted false at = after_fair w table hosted (record hosted { made = true }) (declared_late (owner_of w table) table) at f (late_fair (schema_at w) table (owner_of w table))
+    made hosted false at = after_fair w table hosted (record hosted { made = true }) (declared_late (owner_of w table) table hosted.store.disk.state) at f
+        (late_fair (schema_at w) table (owner_of w table) hosted.store.disk.state)
 
     go : (o : Option Hosted) → hosted_at w table ≡ o → IsFair (start_hosted w table o).world
     go None at = f

@@ -9,6 +9,7 @@ use Rattle.row_value.specs.declared.content.Content.{Content}
 use Rattle.row_value.specs.declared.schema.Schema.{Schema}
 use Rattle.row_value.specs.declared.schema.Scheme.{Scheme}
 use Rattle.row_store.specs.Spelling.{IsClient}
+use Rattle.table_model.specs.declared.table_state.TableState.{TableState}
 use Rattle.step_tables.specs.Store.{Stored, current_of, next_changed, is_of_row}
 use Rattle.step_tables.specs.Chunks.{rising, new_names, old_names, is_spelled}
 use Rattle.step_tables.specs.Facts.{Answer}
@@ -16,7 +17,8 @@ use Rattle.step_tables.specs.Facts as facts
 use Rattle.step_tables.specs.Messages.{Request, Pull, Pair, Header, Pulled, Message, Send, Luck, SyncRequest, SyncResponse, PullRequest, PullResponse}
 use Rattle.step_tables.specs.Messages.{TornPull, TornRowRequest, TornRowResponse}
 use Rattle.step_tables.specs.Messages as messages
-use Rattle.step_tables.specs.StoreMoves.{StoreDisk, StoreChange, StoreTask, TableStore, StoreMove, StoreStep, store_step, changed, done, crashed, worked, failed, recovering, reopening, recover}
+use Rattle.step_tables.specs.StoreMoves.{StoreDisk, SidePut, StoreChange, StoreTask, TableStore, StoreMove, StoreStep}
+use Rattle.step_tables.specs.StoreMoves.{store_step, changed, done, crashed, worked, failed, recovering, reopening, recover}
 use Rattle.step_tables.specs.StoreMoves.{started, recovered, item_at, takes, keeps_there, judged, decided, asked, pulled_for, header_for, taken, accepting, item_for, puts, drops, only}
 use Rattle.step_tables.specs.StoreMoves.{version_of, yours_in, unaccepted}
 use Rattle.step_tables.specs.StoreMoves.{torn_pulled_for}
@@ -79,6 +81,8 @@ module _ (known : ℕ → Option Schema) (table : ℕ) where
   changed_fair d (store.Put item named old) f p = all_join (IsFairItem (known table)) d.items (item ∷ []) f (p, tt)
   changed_fair d (store.DropChunk name) f p = f
   changed_fair d store.Close f p = f
+  changed_fair d (store.PutBeside (store.PutState state)) f p = f
+  changed_fair d (store.PutBeside (store.PutSub client terms)) f p = f
 
   done_fair : (d : StoreDisk) (agenda : Option (List StoreTask)) → AreItems d.items → AreTasks (tasks_in agenda) → IsFairStep known table (done d agenda)
   done_fair d None f p = quiet_fair d None _ f tt
@@ -215,18 +219,24 @@ module _ (known : ℕ → Option Schema) (table : ℕ) where
     taken_fair (Some []) (TornRowRequest torn) t p = torn_fair torn t.1 t.0
     taken_fair (Some []) (TornRowResponse q) t p = quiet_fair d (Some []) _ f tt
 
+  placed_fair : (d : StoreDisk) → AreItems d.items → (agenda : Option (List StoreTask)) (put : SidePut) → AreTasks (tasks_in agenda) → IsFairStep known table (store.placed table d agenda put)
+  placed_fair d f None put p = quiet_fair d None _ f tt
+  placed_fair d f (Some (task ∷ more)) put p = quiet_fair d (Some (task ∷ more)) _ f p
+  placed_fair d f (Some []) put p = quiet_fair d (Some (store.beside_task table put ∷ [])) _ f ((tt, tt), tt)
+
   pub move_fair : (number : ℕ) (g : Scheme) (size : ℕ) (s : TableStore) (move : StoreMove) → IsFairMove known table move → IsFairStore known table s
       → IsFairStep known table (store_step number g size table s move)
   move_fair number g size s (store.Take from message) t f = taken_fair g size s.disk from f.items s.agenda message t f.tasks
+  move_fair number g size s (store.Place put) t f = placed_fair s.disk f.items s.agenda put f.tasks
   move_fair number g size s (store.Work luck) t f = worked_fair s.disk s.agenda luck f.items f.tasks
   move_fair number g size s (store.Crash luck) t f = crashed_fair s.disk s.agenda luck f.items f.tasks
   move_fair number g size s store.Start t f = started_fair number s.disk f.items s.agenda f.tasks
 
-  pub late_fair : (number : ℕ) → IsFairStep known table (declared_late number table)
-  late_fair number = record { store = record { items = tt; tasks = tt }; sends = tt }
+  pub late_fair : (number : ℕ) (state : TableState) → IsFairStep known table (declared_late number table state)
+  late_fair number state = record { store = record { items = tt; tasks = tt }; sends = tt }
 
-  pub none_fair : (agenda : Option (List StoreTask)) → AreTasks (tasks_in agenda) → IsFairStore known table (record { disk = record { items = []; pending = None; left = [] }; agenda = agenda })
-  none_fair agenda p = record { items = tt; tasks = p }
+  pub none_fair : (state : TableState) (agenda : Option (List StoreTask)) → AreTasks (tasks_in agenda) → IsFairStore known table (record { disk = store.new_disk state; agenda = agenda })
+  none_fair state agenda p = record { items = tt; tasks = p }
 
 -- ---- where more is known
 
@@ -265,6 +275,7 @@ module _ (known more : ℕ → Option Schema) (is : (number : ℕ) (schema : Sch
   change_more table (store.Put item named old) f = item_more table item f
   change_more table (store.DropChunk name) f = f
   change_more table store.Close f = f
+  change_more table (store.PutBeside put) f = f
 
   tasks_more : (table : ℕ) (tasks : List StoreTask) → AreFairTasks known table tasks → AreFairTasks more table tasks
   tasks_more table [] a = tt

@@ -4,12 +4,12 @@ use Rattle.row_value.specs.declared.schema.Schema.{Schema}
 use Rattle.row_value.specs.Fit.{fit_of}
 use Rattle.step_tables.specs.Members.{Among}
 use Rattle.step_tables.specs.Messages.{Header, Pulled, PullResponse, TornPulled, TornRowResponse}
-use Rattle.step_tables.specs.ClientMoves.{TableDisk, Plan, ClientDisk, Client, table_at, row_put, planned_in, seen}
+use Rattle.step_tables.specs.ClientMoves.{TableDisk, Plan, ClientDisk, Client, table_at, planned_in, seen}
 use Rattle.world_tables.specs.World.{World, Packet, start, schema_at, client_at}
 use Rattle.fair_laws.specs.Fair.{IsFitContent, IsFairPlan, IsFairDisk, IsFairClient}
 use Rattle.fair_laws.specs.Reached.{IsReached}
 use Rattle.fair_laws.specs.Worlds.{IsFairHeader, IsFairMessage, IsFair}
-use Rattle.fair_laws.proofs.Fairness.{tables_seen, row_plan_is, table_plan_is, some_is}
+use Rattle.fair_laws.proofs.Fairness.{tables_seen, applied_plan_is, some_is}
 use Rattle.fair_laws.proofs.Events.{run_fair, start_fair}
 
 pub reached_fair : (w : World) → IsReached w → IsFair w
@@ -21,7 +21,7 @@ seen_fair known c d f = record { tables = tables_seen known c d f; plan = go d.p
   where
     go : (o : Option Plan) → ((p : Plan) → d.plan ≡ Some p → IsFairPlan known p) → (p : Plan) → (planned_in d o).plan ≡ Some p → IsFairPlan known p
     go None plan p e = plan p e
-    go (Some x) plan p e = plan p (sym (table_plan_is known c (row_put d x.last x.table x.row) x.table x.position ∙ row_plan_is known c d x.last x.table x.row) ∙ e)
+    go (Some x) plan p e = plan p (sym (applied_plan_is known c d x) ∙ e)
 
 pub fits_opened : (known : ℕ → Option Schema) (c : ℕ) (s : Client) → IsFairClient known c s → (table : ℕ) (t : TableDisk) → table_at (seen s.disk) table ≡ Some t
     → known table ≡ Some t.schema

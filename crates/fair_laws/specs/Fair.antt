@@ -8,8 +8,9 @@ use Rattle.step_tables.specs.Slots.{Main}
 use Rattle.step_tables.specs.Slots.{InFlight}
 use Rattle.step_tables.specs.Messages.{Message, Send, SyncRequest, SyncResponse, PullRequest, PullResponse}
 use Rattle.step_tables.specs.Messages.{TornRowRequest, TornRowResponse}
-use Rattle.step_tables.specs.ClientMoves.{Slots, TableDisk, RowPut, Plan, ClientDisk, ClientChange, ClientTask, Client}
-use Rattle.step_tables.specs.ClientMoves.{ClientMove, ClientStep, Shape, Commit, PutRow, PutTable, Finish, Keep}
+use Rattle.step_tables.specs.ClientMoves.{Slots, TableDisk, TableChange, Opens, Closes, RowPut, Plan, ClientDisk}
+use Rattle.step_tables.specs.ClientMoves.{ClientChange, ClientTask, Client, ClientMove, ClientStep, Shape}
+use Rattle.step_tables.specs.ClientMoves.{Commit, PutRow, PutTable, Finish, Keep, Alter}
 use Rattle.step_tables.specs.ClientMoves.{table_at, client_step}
 use Rattle.world_tables.specs.World.{World, schema_at, tasks_in, new_client, open_all}
 
@@ -37,8 +38,17 @@ abbrev pub IsFairPut : Option Schema → Option RowPut → Type 0
 IsFairPut known None = Unit {0}
 IsFairPut known (Some put) = (schema : Schema) × (known ≡ Some schema) × IsFairSlots schema put.slots
 
+-- a table is opened with its own schema
+abbrev pub IsFairAlter : Option Schema → TableChange → Type 0
+IsFairAlter known (Opens schema) = known ≡ Some schema
+IsFairAlter known Closes = Unit {0}
+
+abbrev pub IsFairPlanBy : (ℕ → Option Schema) → Plan → Option TableChange → Type 0
+IsFairPlanBy known p None = IsFairPut (known p.table) p.row
+IsFairPlanBy known p (Some change) = IsFairAlter (known p.table) change
+
 abbrev pub IsFairPlan : (ℕ → Option Schema) → Plan → Type 0
-IsFairPlan known p = IsFairPut (known p.table) p.row
+IsFairPlan known p = IsFairPlanBy known p p.alters
 
 pub record IsFairDisk (known : ℕ → Option Schema) (d : ClientDisk) : Type 0 where
   pub tables : (number : ℕ) (table : TableDisk) → table_at d number ≡ Some table → IsFairTable known number table
@@ -63,8 +73,8 @@ AreFairSends known c sends = AllByRecursion (λ (send : Send). IsFairRequest kno
 
 abbrev pub IsFairChange : (ℕ → Option Schema) → ClientChange → Type 0
 IsFairChange known (Commit p) = IsFairPlan known p
-IsFairChange known (PutRow p) = IsFairPlan known p
-IsFairChange known (PutTable p) = Unit {0}
+IsFairChange known (PutRow p) = IsFairPut (known p.table) p.row
+IsFairChange known (PutTable p) = IsFairPlan known p
 IsFairChange known Finish = Unit {0}
 IsFairChange known (Keep step) = Unit {0}
 
@@ -82,10 +92,15 @@ pub record IsFairStep (known : ℕ → Option Schema) (c : ℕ) (step : ClientSt
   pub client : IsFairClient known c step.client
   pub sends : AreFairSends known c step.sends
 
+-- a move that opens a table has the table's own schema
+abbrev pub OpensKnown : (ℕ → Option Schema) → ClientMove → Type 0
+OpensKnown known (Alter table change) = IsFairAlter (known table) change
+OpensKnown known other = Unit {0}
+
 -- Whatever is done to a client, it stays so, and each request that it sends is such a one.
 abbrev pub ClientsStayFair : Type 0
 ClientsStayFair = (known : ℕ → Option Schema) (c : ℕ) (shape : Shape) (s : Client) (move : ClientMove)
-    → IsFairClient known c s → IsFairStep known c (client_step c shape s move)
+    → OpensKnown known move → IsFairClient known c s → IsFairStep known c (client_step c shape s move)
 
 -- where more schemas are known it is such a one too
 abbrev pub MoreIsKnown : Type 0

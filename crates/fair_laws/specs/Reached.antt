@@ -11,17 +11,21 @@ use Rattle.world_tables.specs.Turns.{Happening, world_from}
 use Rattle.world_tables.specs.World.{World, start}
 
 -- A table's number is from 1 to 64, and the devices of the Store and of its clients can have it: a payload has its
--- schema with at most 14 bytes more.
+-- schema with at most 128 bytes more.
 pub record IsMade (table : ℕ) (schema : Schema) : Type 0 where
   pub least : 1 ≤ table
   pub most : table ≤ 64
   pub size : 0 < schema.chunk
   pub spelled : HasSchemaSpelling schema
-  pub short : length (schema_spelling schema) + 14 ≤ payload_most
+  pub short : length (schema_spelling schema) + 128 ≤ payload_most
 
+-- no table is drafted, made or dropped by a script yet
 abbrev pub IsBuilt : Event → Type 0
 IsBuilt (events.Table table schema) = IsMade table schema
+IsBuilt (events.Draft table schema) = ⊥
 IsBuilt (events.Client client gate tables) = IsClient client
+IsBuilt (events.Create node table) = ⊥
+IsBuilt (events.Drop node table) = ⊥
 IsBuilt other = Unit {0}
 
 -- such events lead to this world, with some lucks

@@ -7,7 +7,8 @@ ghost use Rattle.fair_laws.specs.Fair.{ClientsStayFair, MoreIsKnown, NewClientsA
 ghost use Rattle.fair_laws.specs.Worlds.{ReachedAreFair};
 
 /// Whatever is done to a client whose contents fit their tables, its contents fit behind it, and behind each of its
-/// writes; and each request that it sends is its own, with a content that is a row of its table.
+/// writes; and each request that it sends is its own, with a content that is a row of its table. A table that it opens
+/// is opened with its own schema.
 pub fn clients_stay_fair()
     ensures { ClientsStayFair }
 {}

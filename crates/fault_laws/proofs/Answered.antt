@@ -2,23 +2,25 @@
 use Rattle.std.proofs.Common.{arith, ◌≡◌, ℕ, Bool, true, false, List, [], ◌∷◌, Option, Some, None, refl}
 use Rattle.std.specs.Prelude.{◌&&◌, is_some, slice_get, if◌then◌else◌}
 use Rattle.conflicts.specs.declared.stored.Stored.{Stored}
+use Rattle.row_value.specs.declared.schema.Schema.{Schema}
 use Rattle.stab_base.specs.declared.node.Node.{Node}
 use Rattle.stab_base.specs.declared.node.Node.TheVariants as nodes
 use Rattle.table_model.specs.declared.event.Event.{Event}
 use Rattle.table_model.specs.declared.event.Event.TheVariants as events
+use Rattle.table_model.specs.declared.table_state.TableState.TheVariants as states
 use Rattle.step_tables.specs.Facts as facts
 use Rattle.step_tables.specs.Facts.{Answer, Refusal}
 use Rattle.step_tables.specs.Messages.{Message, Luck, table_of}
 use Rattle.step_tables.specs.Messages as messages
 use Rattle.step_tables.specs.StoreMoves as store
-use Rattle.step_tables.specs.StoreMoves.{StoreMove, StoreTask}
+use Rattle.step_tables.specs.StoreMoves.{StoreMove, StoreTask, SidePut}
 use Rattle.step_tables.specs.ClientMoves as client
 use Rattle.step_tables.specs.ClientMoves.{Client, ClientMove, Shape, client_step, is_cut_off, kept_out}
 use Rattle.world_tables.specs.World.{World, Packet, Hosted, Moved, WorldStep, hosted_at, client_at, owner_of, hosted_by, has_store, is_down, refused, unless_down, call_there, take_read}
 use Rattle.world_tables.specs.World.{take_at, to_hosted, to_there, carried}
 use Rattle.world_tables.specs.World.{delivered, row_read, store_shows, chunk_names, history_lines, worked, all_worked, crashed, started, first_luck, other_lucks, answering, still}
-use Rattle.world_tables.specs.World.{store_starts, client_starts, step}
-use Rattle.world_tables.specs.World.{Lucks, is_cut, is_resolving, unless_cut, unless_kept, calls, call, linked, listed, resolve_all}
+use Rattle.world_tables.specs.World.{store_starts, client_starts, schema_at, puts_beside, opens, created, dropped, step}
+use Rattle.world_tables.specs.World.{Lucks, is_cut, is_resolving, unless_cut, unless_kept, table_of_move, is_closed, closed_answer, unless_closed, calls, call, linked, listed, resolve_all}
 use Rattle.world_tables.specs.World as world
 
 abbrev IsAnswered : WorldStep → Type 0
@@ -46,8 +48,18 @@ call_answered w c move shape lucks (Some node) = up_answered w (nodes.Client c) 
     by_phase None = by_link (is_cut w c && is_cut_off c shape node move)
     by_phase (Some refusal) = refl
 
-    reads : (luck : Luck) → IsAnswered (world.reads w c luck (unless_kept w (kept_out (is_resolving w c) move (client_step c shape node move).answer) linked))
-    reads messages.Done = by_phase (kept_out (is_resolving w c) move (client_step c shape node move).answer)
+    kept : WorldStep
+    kept = unless_kept w (kept_out (is_resolving w c) move (client_step c shape node move).answer) linked
+
+    answer : Answer
+    answer = closed_answer shape (is_cut w c) node.agenda move
+
+    if_closed : (closed : Bool) → IsAnswered (unless_closed w closed answer kept)
+    if_closed true = refl
+    if_closed false = by_phase (kept_out (is_resolving w c) move (client_step c shape node move).answer)
+
+    reads : (luck : Luck) → IsAnswered (world.reads w c luck (unless_closed w (is_closed node (table_of_move move)) answer kept))
+    reads messages.Done = if_closed (is_closed node (table_of_move move))
     reads messages.FailedBefore = refl
     reads messages.FailedAfter = refl
 
@@ -145,10 +157,28 @@ started_answered w shape lucks node = at node
     at (nodes.Gate gate) = refl
     at (nodes.Client c) = up (is_down w (nodes.Client c)) (client_starts c shape lucks w)
 
+puts_answered : (w : World) (number table : ℕ) (put : SidePut) (lucks : List Luck) → IsAnswered (puts_beside w number table put lucks)
+puts_answered w number table put lucks = up_answered w (nodes.Store number) _ (to_hosted_answered w table (store.Place put) lucks (hosted_by w number table))
+
+opens_answered : (w : World) (c table : ℕ) (shape : Shape) (lucks : List Luck) (o : Option Schema) → IsAnswered (opens w c table shape lucks o)
+opens_answered w c table shape lucks None = refl
+opens_answered w c table shape lucks (Some schema) = call_answered w c (client.Alter table (client.Opens schema)) shape lucks (client_at w c)
+
+created_answered : (w : World) (table : ℕ) (shape : Shape) (lucks : List Luck) (node : Node) → IsAnswered (created w table shape lucks node)
+created_answered w table shape lucks (nodes.Store number) = puts_answered w number table (store.PutState states.Live) lucks
+created_answered w table shape lucks (nodes.Gate gate) = refl
+created_answered w table shape lucks (nodes.Client c) = opens_answered w c table shape lucks (schema_at w table)
+
+dropped_answered : (w : World) (table : ℕ) (shape : Shape) (lucks : List Luck) (node : Node) → IsAnswered (dropped w table shape lucks node)
+dropped_answered w table shape lucks (nodes.Store number) = puts_answered w number table (store.PutState states.Dropped) lucks
+dropped_answered w table shape lucks (nodes.Gate gate) = refl
+dropped_answered w table shape lucks (nodes.Client c) = call_answered w c (client.Alter table client.Closes) shape lucks (client_at w c)
+
 abbrev pub is_declaration : Event → Bool
 is_declaration (events.Store number) = true
 is_declaration (events.Gate number) = true
 is_declaration (events.Table table schema) = true
+is_declaration (events.Draft table schema) = true
 is_declaration (events.Client c gate tables) = true
 is_declaration other = false
 
@@ -156,10 +186,13 @@ pub step_answered : (w : World) (event : Event) (lucks : Lucks) → is_declarati
 step_answered w (events.Store number) lucks e = absurd cc
 step_answered w (events.Gate number) lucks e = absurd cc
 step_answered w (events.Table table schema) lucks e = absurd cc
+step_answered w (events.Draft table schema) lucks e = absurd cc
 step_answered w (events.Client c gate tables) lucks e = absurd cc
 step_answered w (events.Write c table row content) lucks e = call_answered w c (client.Write table row content) lucks.shape lucks.calls (client_at w c)
 step_answered w (events.Edit c table row edit) lucks e = call_answered w c (client.Change table row edit) lucks.shape lucks.calls (client_at w c)
 step_answered w (events.Link c up) lucks e = linked_answered w c up (client_at w c)
+step_answered w (events.Create node table) lucks e = created_answered w table lucks.shape lucks.calls node
+step_answered w (events.Drop node table) lucks e = dropped_answered w table lucks.shape lucks.calls node
 step_answered w (events.Show c table row) lucks e = call_answered w c (client.Show table row) lucks.shape lucks.calls (client_at w c)
 step_answered w (events.Sum c table row) lucks e = call_answered w c (client.Sum table row) lucks.shape lucks.calls (client_at w c)
 step_answered w (events.Sync c table) lucks e = call_answered w c (client.Sync table) lucks.shape lucks.calls (client_at w c)

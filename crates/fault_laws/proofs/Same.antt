@@ -2,17 +2,20 @@
 use Rattle.std.proofs.Common.{arith, ◌≡◌, ℕ, zero, suc, Bool, true, false, List, [], ◌∷◌, ◌++◌, length, Option, Some, None, refl, sym, ◌∙◌, ap}
 use Rattle.std.specs.Prelude.{◌+◌, ◌&&◌, ◌||◌, drop, slice_get, if◌then◌else◌}
 use Rattle.conflicts.specs.declared.stored.Stored.{Stored}
+use Rattle.row_value.specs.declared.schema.Schema.{Schema}
 use Rattle.stab_base.specs.declared.node.Node.{Node}
 use Rattle.stab_base.specs.declared.node.Node.TheVariants as nodes
 use Rattle.table_model.specs.declared.line.RowPair.{RowPair}
 use Rattle.table_model.specs.declared.event.Event.{Event}
 use Rattle.table_model.specs.declared.event.Event.TheVariants as events
+use Rattle.table_model.specs.declared.table_state.TableState.{TableState}
+use Rattle.table_model.specs.declared.table_state.TableState.TheVariants as states
 use Rattle.step_tables.specs.Facts as facts
 use Rattle.step_tables.specs.Facts.{Answer, Refusal}
 use Rattle.step_tables.specs.Messages.{Message, Luck, table_of}
 use Rattle.step_tables.specs.Messages as messages
 use Rattle.step_tables.specs.StoreMoves as store
-use Rattle.step_tables.specs.StoreMoves.{StoreMove, StoreTask}
+use Rattle.step_tables.specs.StoreMoves.{StoreMove, StoreTask, SidePut}
 use Rattle.step_tables.specs.ClientMoves as client
 use Rattle.step_tables.specs.ClientMoves.{Client, ClientTask, ClientMove, ClientStep, Shape, client_step, is_cut_off, kept_out}
 use Rattle.world_tables.specs.World.{World, Packet, Hosted, Moved, WorldStep, hosted_at, client_at, owner_of, hosted_by, has_store, tables_of, has_node, is_down, still, and_then, and_unless, is_fault}
@@ -23,7 +26,8 @@ use Rattle.world_tables.specs.World.{luck_of, crash_luck, table_crashes, client_
 use Rattle.world_tables.specs.World.{take_at, to_hosted}
 use Rattle.world_tables.specs.World.{to_there, carried, delivered, row_read, store_shows, crashed, started, worked, all_worked, declared, made_with, table_step, step}
 use Rattle.world_tables.specs.World.{Lucks, starts_by, is_cut, is_resolving, unless_cut, unless_kept, calls, call, joined, listed, first_shape, other_shapes, resolve_by, plan_size}
-use Rattle.world_tables.specs.World.{resolve_each, resolve_all, client_pairs}
+use Rattle.world_tables.specs.World.{table_of_move, is_closed, closed_answer, unless_closed}
+use Rattle.world_tables.specs.World.{resolve_each, resolve_all, client_pairs, schema_at, puts_beside, opens, created, dropped}
 use Rattle.world_tables.specs.World as world
 use Rattle.world_tables.specs.Faults.{is_failure, fails_new, fails_joined, fails_cut, fails_write, fails_crash, is_fault_answer, is_device_fault, quiet_lucks}
 
@@ -128,8 +132,14 @@ call_there_same w c move shape lucks (Some node) e =
     linked : List Luck → WorldStep
     linked more = unless_cut w cut (calls w c move shape more node)
 
+    closed : Bool
+    closed = is_closed node (table_of_move move)
+
+    answer : Answer
+    answer = closed_answer shape (is_cut w c) node.agenda move
+
     read : Luck → List Luck → WorldStep
-    read luck more = world.reads w c luck (unless_kept w kept (linked more))
+    read luck more = world.reads w c luck (unless_closed w closed answer (unless_kept w kept (linked more)))
 
     by_link : (b : Bool) (more : List Luck) → is_fault_answer (unless_cut w b (calls w c move shape more node)).answer ≡ false
         → unless_cut w b (calls w c move shape more node) ≡ unless_cut w b (calls w c move shape [] node)
@@ -144,8 +154,13 @@ call_there_same w c move shape lucks (Some node) e =
     by_phase None more k = by_link cut more k
     by_phase (Some refusal) more k = refl
 
+    if_closed : (b : Bool) (more : List Luck) → is_fault_answer (unless_closed w b answer (unless_kept w kept (linked more))).answer ≡ false
+        → unless_closed w b answer (unless_kept w kept (linked more)) ≡ unless_closed w b answer (unless_kept w kept (linked []))
+    if_closed true more k = refl
+    if_closed false more k = by_phase kept more k
+
     reads_same : (luck : Luck) (more : List Luck) → is_fault_answer (read luck more).answer ≡ false → read luck more ≡ read messages.Done []
-    reads_same messages.Done more k = by_phase kept more k
+    reads_same messages.Done more k = if_closed closed more k
     reads_same messages.FailedBefore more k = absurd cc
     reads_same messages.FailedAfter more k = absurd cc
 
@@ -353,6 +368,31 @@ delivered_same : (w : World) (shape : Shape) (lucks : List Luck) (o : Option Pac
 delivered_same w shape lucks None e = refl
 delivered_same w shape lucks (Some packet) e = carried_same w packet shape lucks packet.to e
 
+-- ---- tables that are made and dropped
+
+puts_same : (w : World) (number table : ℕ) (put : SidePut) (lucks : List Luck) → is_fault_answer (puts_beside w number table put lucks).answer ≡ false
+    → puts_beside w number table put lucks ≡ puts_beside w number table put []
+puts_same w number table put lucks e =
+    up_same w (nodes.Store number) (to_hosted w table (store.Place put) lucks (hosted_by w number table)) (to_hosted w table (store.Place put) [] (hosted_by w number table)) e
+    (λ k. to_hosted_same w table (store.Place put) lucks (hosted_by w number table) k)
+
+opens_same : (w : World) (c table : ℕ) (shape : Shape) (lucks : List Luck) (o : Option Schema) → is_fault_answer (opens w c table shape lucks o).answer ≡ false
+    → opens w c table shape lucks o ≡ opens w c table shape [] o
+opens_same w c table shape lucks None e = refl
+opens_same w c table shape lucks (Some schema) e = call_there_same w c (client.Alter table (client.Opens schema)) shape lucks (client_at w c) e
+
+created_same : (w : World) (table : ℕ) (shape : Shape) (lucks : List Luck) (node : Node) → is_fault_answer (created w table shape lucks node).answer ≡ false
+    → created w table shape lucks node ≡ created w table shape [] node
+created_same w table shape lucks (nodes.Store number) e = puts_same w number table (store.PutState states.Live) lucks e
+created_same w table shape lucks (nodes.Gate gate) e = refl
+created_same w table shape lucks (nodes.Client c) e = opens_same w c table shape lucks (schema_at w table) e
+
+dropped_same : (w : World) (table : ℕ) (shape : Shape) (lucks : List Luck) (node : Node) → is_fault_answer (dropped w table shape lucks node).answer ≡ false
+    → dropped w table shape lucks node ≡ dropped w table shape [] node
+dropped_same w table shape lucks (nodes.Store number) e = puts_same w number table (store.PutState states.Dropped) lucks e
+dropped_same w table shape lucks (nodes.Gate gate) e = refl
+dropped_same w table shape lucks (nodes.Client c) e = call_there_same w c (client.Alter table client.Closes) shape lucks (client_at w c) e
+
 -- ---- rows
 
 row_read_same : (w : World) (table : ℕ) (hosted : Hosted) (row : List ℕ) (luck : Luck) → is_fault_answer (row_read w table hosted row luck).answer ≡ false
@@ -469,14 +509,16 @@ crash_same w node calls pick lucks e = go (is_down w node) e
 
 -- ---- a step
 
+declared_same : (w : World) (table : ℕ) (schema : Schema) (state : TableState) (lucks : List Luck) (o : Option Hosted) → fails_new o lucks ≡ false
+    → silent (declared w table schema state (first_luck lucks) o) ≡ silent (declared w table schema state messages.Done o)
+declared_same w table schema state lucks None e = ap (λ (luck : Luck). silent (made_with w table schema state luck)) (done_alone (first_luck lucks) e)
+declared_same w table schema state lucks (Some hosted) e = refl
+
 pub step_same : (w : World) (event : Event) (lucks : Lucks) → is_device_fault w event lucks ≡ false → step w event lucks ≡ step w event (quiet_lucks event lucks)
 step_same w (events.Store number) lucks e = refl
 step_same w (events.Gate number) lucks e = refl
-step_same w (events.Table table schema) lucks e = go (hosted_at w table) e
-  where
-    go : (o : Option Hosted) → fails_new o lucks.calls ≡ false → silent (declared w table schema (first_luck lucks.calls) o) ≡ silent (declared w table schema messages.Done o)
-    go None e = ap (λ (luck : Luck). silent (made_with w table schema luck)) (done_alone (first_luck lucks.calls) e)
-    go (Some hosted) e = refl
+step_same w (events.Table table schema) lucks e = declared_same w table schema states.Live lucks.calls (hosted_at w table) e
+step_same w (events.Draft table schema) lucks e = declared_same w table schema states.Draft lucks.calls (hosted_at w table) e
 step_same w (events.Client c gate tables) lucks e = go (client_at w c) e
   where
     go : (o : Option Client) → fails_joined o lucks.calls ≡ false → silent (joined w c tables (first_luck lucks.calls) o) ≡ silent (joined w c tables messages.Done o)
@@ -498,6 +540,8 @@ step_same w (events.ResolveAll c table by) lucks e =
     all_same c table by w lucks.shapes (other_lucks lucks.calls) (call w c (client.ResolveAll table by) lucks.shape lucks.calls) (call w c (client.ResolveAll table by) lucks.shape []) e
     (λ k. call_there_same w c (client.ResolveAll table by) lucks.shape lucks.calls (client_at w c) k)
 step_same w (events.Link c up) lucks e = refl
+step_same w (events.Create node table) lucks e = created_same w table lucks.shape lucks.calls node e
+step_same w (events.Drop node table) lucks e = dropped_same w table lucks.shape lucks.calls node e
 step_same w (events.Deliver packet) lucks e = delivered_same w lucks.shape lucks.calls (slice_get w.packets packet) e
 step_same w (events.StoreShow table row) lucks e = store_shows_same w table row lucks.calls (hosted_at w table) e
 step_same w (events.History table) lucks e = refl

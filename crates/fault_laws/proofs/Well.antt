@@ -6,12 +6,14 @@ use Rattle.conflicts.specs.declared.pair.Choice.{Choice}
 use Rattle.conflicts.specs.declared.stored.Stored.{Stored}
 use Rattle.stab_base.specs.declared.chunk_name.ChunkName.{ChunkName}
 use Rattle.row_value.specs.declared.content.Content.{Content}
+use Rattle.row_value.specs.declared.schema.Schema.{Schema}
 use Rattle.row_edits.specs.declared.change.Edit.{Edit}
 use Rattle.stab_base.specs.declared.node.Node.{Node}
 use Rattle.stab_base.specs.declared.node.Node.TheVariants as nodes
 use Rattle.table_model.specs.declared.line.RowPair.{RowPair}
 use Rattle.table_model.specs.declared.event.Event.{Event}
 use Rattle.table_model.specs.declared.event.Event.TheVariants as events
+use Rattle.table_model.specs.declared.table_state.TableState.TheVariants as states
 use Rattle.step_tables.specs.Facts as facts
 use Rattle.step_tables.specs.Facts.{Answer, Shown, ShownSum}
 use Rattle.step_tables.specs.Sums.{by_digests, sum_of, or_whole}
@@ -20,9 +22,9 @@ use Rattle.step_tables.specs.Store as items
 use Rattle.step_tables.specs.Messages.{Message, Luck, table_of, SyncRequest, SyncResponse, PullRequest, PullResponse, TornRowRequest, TornRowResponse}
 use Rattle.step_tables.specs.Messages as messages
 use Rattle.step_tables.specs.StoreMoves as store
-use Rattle.step_tables.specs.StoreMoves.{StoreMove, StoreTask, StoreDisk}
+use Rattle.step_tables.specs.StoreMoves.{StoreMove, StoreTask, StoreDisk, SidePut}
 use Rattle.step_tables.specs.ClientMoves as client
-use Rattle.step_tables.specs.ClientMoves.{Client, ClientDisk, ClientTask, ClientMove, Shape, client_step, is_cut_off, kept_out}
+use Rattle.step_tables.specs.ClientMoves.{Client, ClientDisk, ClientTask, ClientMove, TableChange, Shape, client_step, is_cut_off, kept_out}
 use Rattle.world_tables.specs.World.{World, Packet, Hosted, Moved, WorldStep, hosted_at, client_at, owner_of, hosted_by, has_store, tables_of, has_node, is_down, still, and_then, and_unless}
 use Rattle.world_tables.specs.World.{is_fault, failing}
 use Rattle.world_tables.specs.World.{move_hosted, move_table, move_there, move_client, client_works, client_tasks, client_until_idle, client_follows, client_writes, client_starts}
@@ -31,8 +33,8 @@ use Rattle.world_tables.specs.World.{or_falls, is_at_work, busy_table, write_nex
 use Rattle.world_tables.specs.World.{start_hosted, after_table, declared_late, answering, refused, unless_down, gets_tasks, client_follows_from, call_there, call, take_read, take_at}
 use Rattle.world_tables.specs.World.{to_hosted, row_shown}
 use Rattle.world_tables.specs.World.{to_there, carried, delivered, row_read, store_shows, started, worked, all_worked, table_step, step, schema_at, chunk_names, history_lines}
-use Rattle.world_tables.specs.World.{Lucks, is_cut, is_resolving, unless_cut, unless_kept, calls, linked, listed, client_falls, first_shape, other_shapes, chosen_of, client_pairs}
-use Rattle.world_tables.specs.World.{resolve_by, plan_size, resolve_each, resolve_all}
+use Rattle.world_tables.specs.World.{Lucks, is_cut, is_resolving, unless_cut, unless_kept, table_of_move, is_closed, closed_answer, unless_closed, calls, linked, listed, client_falls, first_shape, other_shapes, chosen_of, client_pairs}
+use Rattle.world_tables.specs.World.{resolve_by, plan_size, resolve_each, resolve_all, puts_beside, opens, created, dropped}
 use Rattle.world_tables.specs.Faults.{fails_new, fails_joined, fails_cut, fails_write, fails_crash, is_fault_answer, is_device_fault, quiet_calls, quiet_lucks}
 use Rattle.world_tables.specs.World as moves
 
@@ -108,6 +110,10 @@ resolve_fine c shape d agenda table row version choice = grind (arith, nat_tests
 all_fine : (shape : Shape) (d : ClientDisk) (agenda : Option (List ClientTask)) (table : ℕ) (by : Stored) → is_fault (client.all_step shape d agenda table by).answer ≡ false
 all_fine shape d agenda table by = grind (arith, nat_tests)
 
+alter_fine : (c : ℕ) (shape : Shape) (d : ClientDisk) (agenda : Option (List ClientTask)) (table : ℕ) (change : TableChange)
+    → is_fault (client.alter_step c shape d agenda table change).answer ≡ false
+alter_fine c shape d agenda table change = grind (arith, nat_tests)
+
 pub take_fine : (c : ℕ) (shape : Shape) (d : ClientDisk) (agenda : Option (List ClientTask)) (m : Message) → is_fault (client.take_step c shape d agenda m).answer ≡ false
 take_fine c shape d agenda m = grind (arith, nat_tests)
 
@@ -181,23 +187,34 @@ module _ (w : World) (s : WorldStep) (fine : IsFine s) where
   kept_fine phase (client.EndCr table) answer = if_closed_fine (client.is_before_phase (client.EndCr table) answer) (phase table)
   kept_fine phase (client.Resolve table row seen choice) answer = if_closed_fine (client.is_before_phase (client.Resolve table row seen choice) answer) (phase table)
   kept_fine phase (client.ResolveAll table by) answer = if_closed_fine (client.is_before_phase (client.ResolveAll table by) answer) (phase table)
+  kept_fine phase (client.Alter table change) answer = fine
   kept_fine phase (client.Take message) answer = fine
   kept_fine phase (client.Work luck) answer = fine
   kept_fine phase (client.Crash luck) answer = fine
   kept_fine phase client.Start answer = fine
 
+-- what is answered where the table is closed
+closed_fine : (shape : Shape) (cut : Bool) (agenda : Option (List ClientTask)) (move : ClientMove) → is_fault (closed_answer shape cut agenda move) ≡ false
+closed_fine shape cut agenda move = grind (arith, nat_tests)
+
 call_there_fine : (w : World) (c : ℕ) (move : ClientMove) (shape : Shape) (o : Option Client) → ((node : Client) → is_fault (client_step c shape node move).answer ≡ false)
     → IsFine (call_there w c move shape [] o)
 call_there_fine w c move shape None fine = refl
-call_there_fine w c move shape (Some node) fine = up_fine w (nodes.Client c) _
-    (kept_fine w (unless_cut w (is_cut w c && is_cut_off c shape node move) (calls w c move shape [] node)) (by_link (is_cut w c && is_cut_off c shape node move))
-    (is_resolving w c) move (client_step c shape node move).answer)
+call_there_fine w c move shape (Some node) fine = up_fine w (nodes.Client c) _ (if_closed (is_closed node (table_of_move move)))
   where
     by_link : (cut : Bool) → IsFine (unless_cut w cut (calls w c move shape [] node))
     by_link true = refl
     by_link false =
         answering_fine (client_step c shape node move).answer (and_then (move_client c move shape w) (client_follows_from node.agenda c [])) (fine node)
         (then_well (move_client c move shape w) (client_follows_from node.agenda c []) (client_move_well c move shape w fine) (follows_from_well node.agenda c))
+
+    linked : WorldStep
+    linked = unless_cut w (is_cut w c && is_cut_off c shape node move) (calls w c move shape [] node)
+
+    if_closed : (closed : Bool)
+        → IsFine (unless_closed w closed (closed_answer shape (is_cut w c) node.agenda move) (unless_kept w (kept_out (is_resolving w c) move (client_step c shape node move).answer) linked))
+    if_closed true = answering_fine (closed_answer shape (is_cut w c) node.agenda move) (still w) (closed_fine shape (is_cut w c) node.agenda move) refl
+    if_closed false = kept_fine w linked (by_link (is_cut w c && is_cut_off c shape node move)) (is_resolving w c) move (client_step c shape node move).answer
 
 pub call_fine : (w : World) (c : ℕ) (move : ClientMove) (shape : Shape) → ((node : Client) → is_fault (client_step c shape node move).answer ≡ false) → IsFine (call w c move shape [])
 call_fine w c move shape fine = call_there_fine w c move shape (client_at w c) fine
@@ -283,12 +300,17 @@ table_work_well table w = go (hosted_at w table)
     go None = refl
     go (Some hosted) = store_done_fine hosted.store.disk hosted.store.agenda
 
-table_take_well : (table : ℕ) (from : Node) (m : Message) (w : World) → IsWell (move_table table (store.Take from m) w)
-table_take_well table from m w = go (hosted_at w table)
+placed_fine : (table : ℕ) (d : StoreDisk) (agenda : Option (List StoreTask)) (put : SidePut) → is_fault (store.placed table d agenda put).answer ≡ false
+placed_fine table d None put = refl
+placed_fine table d (Some []) put = refl
+placed_fine table d (Some (task ∷ tasks)) put = refl
+
+table_move_well : (table : ℕ) (move : StoreMove) (w : World) → ((hosted : Hosted) → is_fault (table_step w table hosted move).answer ≡ false) → IsWell (move_table table move w)
+table_move_well table move w fine = go (hosted_at w table)
   where
-    go : (o : Option Hosted) → IsWell (move_hosted w table (store.Take from m) o)
+    go : (o : Option Hosted) → IsWell (move_hosted w table move o)
     go None = refl
-    go (Some hosted) = taken_fine w table hosted from m
+    go (Some hosted) = fine hosted
 
 table_start_well : (table : ℕ) (w : World) → IsWell (move_table table store.Start w)
 table_start_well table w = go (hosted_at w table)
@@ -331,7 +353,7 @@ table_starts_well table w = go (hosted_at w table)
 
     go : (o : Option Hosted) → IsWell (start_hosted w table o)
     go None = refl
-    go (Some hosted) = made hosted.made (after_table w table (record hosted { made = true }) (declared_late (owner_of w table) table)) refl
+    go (Some hosted) = made hosted.made (after_table w table (record hosted { made = true }) (declared_late (owner_of w table) table hosted.store.disk.state)) refl
 
 tables_start_well : (tables : List ℕ) (w : World) → IsWell (tables_start tables [] w)
 tables_start_well [] w = refl
@@ -358,30 +380,56 @@ store_starts_well number w =
 
 -- ---- packets and rows
 
-to_hosted_fine : (w : World) (table : ℕ) (from : Node) (m : Message) (o : Option Hosted) → IsFine (to_hosted w table (store.Take from m) [] o)
-to_hosted_fine w table from m None = refl
-to_hosted_fine w table from m (Some hosted) = go hosted.store.agenda
+to_hosted_fine : (w : World) (table : ℕ) (move : StoreMove) → ((hosted : Hosted) → is_fault (table_step w table hosted move).answer ≡ false) → (o : Option Hosted)
+    → IsFine (to_hosted w table move [] o)
+to_hosted_fine w table move fine None = refl
+to_hosted_fine w table move fine (Some hosted) = go hosted.store.agenda
   where
     a : Answer
-    a = (table_step w table hosted (store.Take from m)).answer
+    a = (table_step w table hosted move).answer
 
-    go : (agenda : Option (List StoreTask)) → IsFine (take_at w table hosted (store.Take from m) [] agenda)
-    go None = answering_fine a (move_table table (store.Take from m) w) (taken_fine w table hosted from m) (table_take_well table from m w)
+    go : (agenda : Option (List StoreTask)) → IsFine (take_at w table hosted move [] agenda)
+    go None = answering_fine a (move_table table move w) (fine hosted) (table_move_well table move w fine)
     go (Some []) =
-        answering_fine a (and_then (move_table table (store.Take from m) w) (table_follows table [])) (taken_fine w table hosted from m)
-        (then_well (move_table table (store.Take from m) w) (table_follows table []) (table_take_well table from m w) (table_follows_well table))
-    go (Some (task ∷ tasks)) = answering_fine a (move_table table (store.Take from m) w) (taken_fine w table hosted from m) (table_take_well table from m w)
+        answering_fine a (and_then (move_table table move w) (table_follows table [])) (fine hosted)
+        (then_well (move_table table move w) (table_follows table []) (table_move_well table move w fine) (table_follows_well table))
+    go (Some (task ∷ tasks)) = answering_fine a (move_table table move w) (fine hosted) (table_move_well table move w fine)
 
 carried_fine : (w : World) (packet : Packet) (shape : Shape) (to : Node) → IsFine (carried w packet shape [] to)
 carried_fine w packet shape (nodes.Store number) =
     up_fine w (nodes.Store number) (to_hosted w (table_of packet.message) (store.Take packet.from packet.message) [] (hosted_by w number (table_of packet.message)))
-    (to_hosted_fine w (table_of packet.message) packet.from packet.message (hosted_by w number (table_of packet.message)))
+    (to_hosted_fine w (table_of packet.message) (store.Take packet.from packet.message) (λ hosted. taken_fine w (table_of packet.message) hosted packet.from packet.message)
+    (hosted_by w number (table_of packet.message)))
 carried_fine w packet shape (nodes.Client c) = to_there_fine w c packet.message shape (client_at w c)
 carried_fine w packet shape (nodes.Gate gate) = refl
 
 delivered_fine : (w : World) (shape : Shape) (o : Option Packet) → IsFine (delivered w shape [] o)
 delivered_fine w shape None = refl
 delivered_fine w shape (Some packet) = carried_fine w packet shape packet.to
+
+-- ---- tables that are made and dropped
+
+puts_fine : (w : World) (number table : ℕ) (put : SidePut) → IsFine (puts_beside w number table put [])
+puts_fine w number table put =
+    up_fine w (nodes.Store number) (to_hosted w table (store.Place put) [] (hosted_by w number table))
+    (to_hosted_fine w table (store.Place put) (λ hosted. placed_fine table hosted.store.disk hosted.store.agenda put) (hosted_by w number table))
+
+alters_fine : (w : World) (c table : ℕ) (change : TableChange) (shape : Shape) → IsFine (call w c (client.Alter table change) shape [])
+alters_fine w c table change shape = call_fine w c (client.Alter table change) shape (λ node. alter_fine c shape node.disk node.agenda table change)
+
+opens_fine : (w : World) (c table : ℕ) (shape : Shape) (o : Option Schema) → IsFine (opens w c table shape [] o)
+opens_fine w c table shape None = refl
+opens_fine w c table shape (Some schema) = alters_fine w c table (client.Opens schema) shape
+
+created_fine : (w : World) (table : ℕ) (shape : Shape) (node : Node) → IsFine (created w table shape [] node)
+created_fine w table shape (nodes.Store number) = puts_fine w number table (store.PutState states.Live)
+created_fine w table shape (nodes.Gate gate) = refl
+created_fine w table shape (nodes.Client c) = opens_fine w c table shape (schema_at w table)
+
+dropped_fine : (w : World) (table : ℕ) (shape : Shape) (node : Node) → IsFine (dropped w table shape [] node)
+dropped_fine w table shape (nodes.Store number) = puts_fine w number table (store.PutState states.Dropped)
+dropped_fine w table shape (nodes.Gate gate) = refl
+dropped_fine w table shape (nodes.Client c) = alters_fine w c table client.Closes shape
 
 shown_fine : (o : Option items.Stored) → is_fault (row_shown o) ≡ false
 shown_fine None = refl
@@ -397,14 +445,15 @@ names_fine (name ∷ names) = refl
 
 -- ---- a step
 
+new_fine : (o : Option Hosted) → fails_new o [] ≡ false
+new_fine None = refl
+new_fine (Some hosted) = refl
+
 pub fine_step : (w : World) (event : Event) (lucks : Lucks) → is_device_fault w event (quiet_lucks event lucks) ≡ false
 fine_step w (events.Store number) lucks = refl
 fine_step w (events.Gate number) lucks = refl
-fine_step w (events.Table table schema) lucks = go (hosted_at w table)
-  where
-    go : (o : Option Hosted) → fails_new o [] ≡ false
-    go None = refl
-    go (Some hosted) = refl
+fine_step w (events.Table table schema) lucks = new_fine (hosted_at w table)
+fine_step w (events.Draft table schema) lucks = new_fine (hosted_at w table)
 fine_step w (events.Client c gate tables) lucks = go (client_at w c)
   where
     go : (o : Option Client) → fails_joined o [] ≡ false
@@ -432,6 +481,8 @@ fine_step w (events.Link c up) lucks = go (client_at w c)
     go : (o : Option Client) → IsFine (linked w c up o)
     go None = refl
     go (Some node) = up_fine w (nodes.Client c) _ refl
+fine_step w (events.Create node table) lucks = created_fine w table lucks.shape node
+fine_step w (events.Drop node table) lucks = dropped_fine w table lucks.shape node
 fine_step w (events.Deliver packet) lucks = delivered_fine w lucks.shape (slice_get w.packets packet)
 fine_step w (events.StoreShow table row) lucks = store_shows_fine w table row (hosted_at w table)
 fine_step w (events.History table) lucks = go (hosted_at w table)

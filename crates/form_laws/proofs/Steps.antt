@@ -3,11 +3,13 @@ use Rattle.std.proofs.Common.{◌≡◌, ℕ, Bool, true, false, List, [], ◌�
 use Rattle.std.specs.Prelude.{◌&&◌, map, slice_get, if◌then◌else◌}
 use Rattle.std.specs.List.{AllByRecursion}
 use Rattle.conflicts.specs.declared.stored.Stored as resolvers
+use Rattle.row_value.specs.declared.schema.Schema.{Schema}
 use Rattle.stab_base.specs.declared.node.Node.{Node}
 use Rattle.stab_base.specs.declared.node.Node.TheVariants as nodes
 use Rattle.table_model.specs.declared.entry.Entry.{Entry}
 use Rattle.table_model.specs.declared.event.Event.{Event}
 use Rattle.table_model.specs.declared.event.Event.TheVariants as events
+use Rattle.table_model.specs.declared.table_state.TableState.TheVariants as states
 use Rattle.table_model.specs.declared.line.RowPair.{RowPair}
 use Rattle.step_tables.specs.Facts.{Answer, Refusal, EntryLine, PairLine}
 use Rattle.step_tables.specs.Facts as facts
@@ -16,9 +18,9 @@ use Rattle.step_tables.specs.Messages.{Message, Luck, table_of}
 use Rattle.step_tables.specs.Messages as messages
 use Rattle.step_tables.specs.Store.{Stored, current_of, is_of_row}
 use Rattle.step_tables.specs.StoreMoves as store
-use Rattle.step_tables.specs.StoreMoves.{StoreTask}
+use Rattle.step_tables.specs.StoreMoves.{SidePut, StoreTask, StoreMove}
 use Rattle.step_tables.specs.ClientMoves as client
-use Rattle.step_tables.specs.ClientMoves.{Client, ClientMove, Shape, client_step, is_cut_off, kept_out}
+use Rattle.step_tables.specs.ClientMoves.{Client, ClientTask, ClientMove, TableChange, Shape, client_step, is_cut_off, kept_out}
 use Rattle.step_tables.proofs.Lists.{among_last}
 use Rattle.world_tables.specs.World.{World, Packet, Hosted, Moved, WorldStep, Lucks, schema_at, scheme_in, chunk_in, hosted_at, client_at, owner_of, has_store, hosted_by, is_down, is_cut}
 use Rattle.world_tables.specs.World.{is_resolving, still}
@@ -26,9 +28,10 @@ use Rattle.world_tables.specs.World.{move_table, table_follows, first_luck, othe
 use Rattle.world_tables.specs.World.{client_pairs, resolve_each, resolve_all, table_step, take_read, take_at, to_hosted, to_there, carried, delivered, row_shown, row_read, store_shows, names_on}
 use Rattle.world_tables.specs.World.{chunk_names, history_lines, failing, and_then, move_client, client_follows_from, client_falls, store_falls, client_tasks, client_writes}
 use Rattle.world_tables.specs.World.{client_until_idle, busy_table, write_next, tasks_of, store_until_idle, store_crashes, client_crashes, busy_step, next_write, worked, all_worked, crashed}
-use Rattle.world_tables.specs.World.{store_starts, client_starts, started, linked, step}
+use Rattle.world_tables.specs.World.{table_of_move, is_closed, closed_answer, unless_closed}
+use Rattle.world_tables.specs.World.{store_starts, client_starts, started, linked, puts_beside, opens, created, dropped, step}
 use Rattle.world_tables.specs.World as world
-use Rattle.world_laws.proofs.Forms.{write_form, edit_form, show_form, sync_form, next_form, phase_form, resolve_form, all_form, take_form, taken_form}
+use Rattle.world_laws.proofs.Forms.{write_form, edit_form, show_form, sync_form, next_form, phase_form, resolve_form, all_form, alter_form, take_form, taken_form, placed_form}
 use Rattle.transcript_text.specs.OneForm.{HasValue}
 use Rattle.form_laws.specs.Forms.{HasAnswerForm, HasLineForm}
 use Rattle.form_laws.proofs.Answers.{number_form, done_form, shown_form, sum_form, names_form, conflicts_form}
@@ -68,6 +71,14 @@ fallen_forms m = answering_forms facts.Done m tt
 
 -- ---- calls
 
+-- what is answered where the table is closed
+closed_form : (shape : Shape) (cut : Bool) (agenda : Option (List ClientTask)) (move : ClientMove) → HasAnswerForm (closed_answer shape cut agenda move)
+closed_form shape true agenda (client.Take message) = tt
+closed_form shape false None (client.Take message) = tt
+closed_form shape false (Some []) (client.Take message) = tt
+closed_form shape false (Some (task ∷ more)) (client.Take message) = tt
+closed_form shape cut agenda other = tt
+
 call_forms : (w : World) (c : ℕ) (move : ClientMove) (shape : Shape) (lucks : List Luck) → ((node : Client) → HasAnswerForm (client_step c shape node move).answer)
     → (o : Option Client) → HasForms (call_there w c move shape lucks o)
 call_forms w c move shape lucks forms None = (tt, tt)
@@ -84,8 +95,18 @@ call_forms w c move shape lucks forms (Some node) = up_forms w (nodes.Client c) 
     by_phase None = by_link (is_cut w c && is_cut_off c shape node move)
     by_phase (Some refusal) = (tt, tt)
 
-    by_luck : (luck : Luck) → HasForms (world.reads w c luck (unless_kept w (kept_out (is_resolving w c) move (client_step c shape node move).answer) linked))
-    by_luck messages.Done = by_phase (kept_out (is_resolving w c) move (client_step c shape node move).answer)
+    kept : WorldStep
+    kept = unless_kept w (kept_out (is_resolving w c) move (client_step c shape node move).answer) linked
+
+    answer : Answer
+    answer = closed_answer shape (is_cut w c) node.agenda move
+
+    if_closed : (closed : Bool) → HasForms (unless_closed w closed answer kept)
+    if_closed true = answering_forms answer (still w) (closed_form shape (is_cut w c) node.agenda move)
+    if_closed false = by_phase (kept_out (is_resolving w c) move (client_step c shape node move).answer)
+
+    by_luck : (luck : Luck) → HasForms (world.reads w c luck (unless_closed w (is_closed node (table_of_move move)) answer kept))
+    by_luck messages.Done = if_closed (is_closed node (table_of_move move))
     by_luck messages.FailedBefore = fallen_forms (failing (client_falls c w))
     by_luck messages.FailedAfter = fallen_forms (failing (client_falls c w))
 
@@ -129,23 +150,21 @@ resolve_all_forms w c table by shapes lucks s forms = go s.answer forms
 
 -- ---- deliveries
 
-hosted_forms : (w : World) (table : ℕ) (from : Node) (m : Message) (lucks : List Luck) (o : Option Hosted) → HasForms (to_hosted w table (store.Take from m) lucks o)
-hosted_forms w table from m lucks None = (tt, tt)
-hosted_forms w table from m lucks (Some hosted) = go hosted.store.agenda
+hosted_forms : (w : World) (table : ℕ) (move : StoreMove) (lucks : List Luck) → ((hosted : Hosted) → HasAnswerForm (table_step w table hosted move).answer) → (o : Option Hosted)
+    → HasForms (to_hosted w table move lucks o)
+hosted_forms w table move lucks forms None = (tt, tt)
+hosted_forms w table move lucks forms (Some hosted) = go hosted.store.agenda
   where
-    taken : HasAnswerForm (table_step w table hosted (store.Take from m)).answer
-    taken = done_form _ (taken_form (scheme_in (schema_at w table)) (chunk_in (schema_at w table)) table hosted.store.disk hosted.store.agenda from m)
-
-    read : (luck : Luck) → HasForms (take_read w table hosted (store.Take from m) (other_lucks lucks) luck)
+    read : (luck : Luck) → HasForms (take_read w table hosted move (other_lucks lucks) luck)
     read messages.Done =
-        answering_forms (table_step w table hosted (store.Take from m)).answer (and_then (move_table table (store.Take from m) w) (table_follows table (other_lucks lucks))) taken
+        answering_forms (table_step w table hosted move).answer (and_then (move_table table move w) (table_follows table (other_lucks lucks))) (forms hosted)
     read messages.FailedBefore = fallen_forms (failing (store_falls (owner_of w table) w))
     read messages.FailedAfter = fallen_forms (failing (store_falls (owner_of w table) w))
 
-    go : (agenda : Option (List StoreTask)) → HasForms (take_at w table hosted (store.Take from m) lucks agenda)
-    go None = answering_forms (table_step w table hosted (store.Take from m)).answer (move_table table (store.Take from m) w) taken
+    go : (agenda : Option (List StoreTask)) → HasForms (take_at w table hosted move lucks agenda)
+    go None = answering_forms (table_step w table hosted move).answer (move_table table move w) (forms hosted)
     go (Some []) = read (first_luck lucks)
-    go (Some (task ∷ tasks)) = answering_forms (table_step w table hosted (store.Take from m)).answer (move_table table (store.Take from m) w) taken
+    go (Some (task ∷ tasks)) = answering_forms (table_step w table hosted move).answer (move_table table move w) (forms hosted)
 
 client_take_forms : (w : World) (c : ℕ) (m : Message) (shape : Shape) (lucks : List Luck) (o : Option Client) → HasForms (to_there w c m shape lucks o)
 client_take_forms w c m shape lucks None = (tt, tt)
@@ -153,13 +172,41 @@ client_take_forms w c m shape lucks (Some node) = call_forms w c (client.Take m)
 
 pub carried_forms : (w : World) (packet : Packet) (shape : Shape) (lucks : List Luck) (to : Node) → HasForms (carried w packet shape lucks to)
 carried_forms w packet shape lucks (nodes.Store number) =
-    up_forms w (nodes.Store number) _ (hosted_forms w (table_of packet.message) packet.from packet.message lucks (hosted_by w number (table_of packet.message)))
+    up_forms w (nodes.Store number) _ (hosted_forms w table (store.Take packet.from packet.message) lucks
+    (λ hosted. done_form _ (taken_form (scheme_in (schema_at w table)) (chunk_in (schema_at w table)) table hosted.store.disk hosted.store.agenda packet.from packet.message))
+    (hosted_by w number table))
+  where
+    table : ℕ
+    table = table_of packet.message
 carried_forms w packet shape lucks (nodes.Client c) = client_take_forms w c packet.message shape lucks (client_at w c)
 carried_forms w packet shape lucks (nodes.Gate gate) = (tt, tt)
 
 delivered_forms : (w : World) (shape : Shape) (lucks : List Luck) (o : Option Packet) → HasForms (delivered w shape lucks o)
 delivered_forms w shape lucks None = (tt, tt)
 delivered_forms w shape lucks (Some packet) = carried_forms w packet shape lucks packet.to
+
+-- ---- tables that are made and dropped
+
+puts_forms : (w : World) (number table : ℕ) (put : SidePut) (lucks : List Luck) → HasForms (puts_beside w number table put lucks)
+puts_forms w number table put lucks =
+    up_forms w (nodes.Store number) _ (hosted_forms w table (store.Place put) lucks (λ hosted. done_form _ (placed_form table hosted.store.disk hosted.store.agenda put)) (hosted_by w number table))
+
+alter_forms : (w : World) (c table : ℕ) (change : TableChange) (shape : Shape) (lucks : List Luck) → HasForms (call w c (client.Alter table change) shape lucks)
+alter_forms w c table change shape lucks = call_forms w c (client.Alter table change) shape lucks (λ s. done_form _ (alter_form c shape s.disk s.agenda table change)) (client_at w c)
+
+opens_forms : (w : World) (c table : ℕ) (shape : Shape) (lucks : List Luck) (o : Option Schema) → HasForms (opens w c table shape lucks o)
+opens_forms w c table shape lucks None = (tt, tt)
+opens_forms w c table shape lucks (Some schema) = alter_forms w c table (client.Opens schema) shape lucks
+
+created_forms : (w : World) (table : ℕ) (shape : Shape) (lucks : List Luck) (node : Node) → HasForms (created w table shape lucks node)
+created_forms w table shape lucks (nodes.Store number) = puts_forms w number table (store.PutState states.Live) lucks
+created_forms w table shape lucks (nodes.Client c) = opens_forms w c table shape lucks (schema_at w table)
+created_forms w table shape lucks (nodes.Gate gate) = (tt, tt)
+
+dropped_forms : (w : World) (table : ℕ) (shape : Shape) (lucks : List Luck) (node : Node) → HasForms (dropped w table shape lucks node)
+dropped_forms w table shape lucks (nodes.Store number) = puts_forms w number table (store.PutState states.Dropped) lucks
+dropped_forms w table shape lucks (nodes.Client c) = alter_forms w c table client.Closes shape lucks
+dropped_forms w table shape lucks (nodes.Gate gate) = (tt, tt)
 
 -- ---- a pull, which the wire does by itself
 
@@ -238,6 +285,7 @@ pub step_forms : (w : World) → HaveValues w → (event : Event) (lucks : Lucks
 step_forms w values (events.Store number) lucks = (tt, tt)
 step_forms w values (events.Gate number) lucks = (tt, tt)
 step_forms w values (events.Table table schema) lucks = (tt, tt)
+step_forms w values (events.Draft table schema) lucks = (tt, tt)
 step_forms w values (events.Client c gate tables) lucks = (tt, tt)
 step_forms w values (events.Write c table row content) lucks =
     call_forms w c (client.Write table row content) lucks.shape lucks.calls (λ s. number_form _ (write_form c lucks.shape s.disk s.agenda table row content)) (client_at w c)
@@ -263,6 +311,8 @@ step_forms w values (events.ResolveAll c table by) lucks =
     resolve_all_forms w c table by lucks.shapes (other_lucks lucks.calls) (call w c (client.ResolveAll table by) lucks.shape lucks.calls)
     (call_forms w c (client.ResolveAll table by) lucks.shape lucks.calls (λ s. number_form _ (all_form c lucks.shape s.disk s.agenda table by)) (client_at w c))
 step_forms w values (events.Link c up) lucks = linked_forms w c up (client_at w c)
+step_forms w values (events.Create node table) lucks = created_forms w table lucks.shape lucks.calls node
+step_forms w values (events.Drop node table) lucks = dropped_forms w table lucks.shape lucks.calls node
 step_forms w values (events.Deliver packet) lucks = delivered_forms w lucks.shape lucks.calls (slice_get w.packets packet)
 step_forms w values (events.StoreShow table row) lucks = shows_forms w table row lucks.calls (hosted_at w table) (values table)
 step_forms w values (events.History table) lucks = history_forms w table (hosted_at w table)

@@ -95,7 +95,11 @@ client_forms v c p lucks x = go x.taken
 
 table_forms : (v : Wire) (c : ℕ) (p : PartPacket) (lucks : Lucks) (o : Option TableDisk) → HaveForms (by_table v c p lucks o)
 table_forms v c p lucks None = untaken_forms v p lucks
-table_forms v c p lucks (Some opened) = client_forms v c p lucks (arrived opened (arriving_at v c) p.part)
+table_forms v c p lucks (Some opened) = go opened.closed
+  where
+    go : (closed : Bool) → HaveForms (if closed then untaken v p lucks else client_taken v c p lucks (arrived opened (arriving_at v c) p.part))
+    go true = untaken_forms v p lucks
+    go false = client_forms v c p lucks (arrived opened (arriving_at v c) p.part)
 
 node_forms : (v : Wire) (c : ℕ) (p : PartPacket) (lucks : Lucks) (o : Option Client) → HaveForms (by_client v c p lucks o)
 node_forms v c p lucks None = untaken_forms v p lucks

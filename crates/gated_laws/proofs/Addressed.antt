@@ -10,6 +10,8 @@ use Rattle.stab_base.specs.declared.node.Node.TheVariants as nodes
 use Rattle.row_value.specs.declared.schema.Schema.{Schema}
 use Rattle.table_model.specs.declared.event.Event.{Event}
 use Rattle.table_model.specs.declared.event.Event.TheVariants as events
+use Rattle.table_model.specs.declared.table_state.TableState.{TableState}
+use Rattle.table_model.specs.declared.table_state.TableState.TheVariants as states
 use Rattle.step_tables.specs.Members.{Among}
 use Rattle.step_tables.specs.Messages.{Message, Send, Luck, SyncRequest, SyncResponse, PullRequest, PullResponse, TornRowRequest, TornRowResponse, table_of}
 use Rattle.step_tables.specs.Messages as messages
@@ -23,7 +25,7 @@ use Rattle.world_tables.specs.World.{new_client}
 use Rattle.world_tables.specs.World.{first_agenda, joined, with_store, step}
 use Rattle.world_tables.specs.Sound.{is_declaration}
 use Rattle.name_laws.proofs.Plain.{ToOwners, IsPlainAgenda, IsPlainStep, client_plain}
-use Rattle.fair_laws.specs.Fair.{IsFairRequest, AreFairSends}
+use Rattle.fair_laws.specs.Fair.{IsFairRequest, AreFairSends, OpensKnown}
 use Rattle.fair_laws.specs.Reached.{IsBuilt}
 use Rattle.fair_laws.specs.Worlds.{IsFair}
 use Rattle.fair_laws.proofs.Fairness as fairness
@@ -129,16 +131,18 @@ module _ (w : World) where
           (move_replies (owner_of v table) (scheme_in (schema_at v table)) (chunk_in (schema_at v table)) table hosted.store move own (l.addressed.tables table hosted at)) f l
 
   own_later : (v : World) (table : ℕ) (move : StoreMove) → IsOwnMove move → IsLater w v → IsLater w (move_table table move v).world
+  own_later v table (store.Place put) own l = move_later v table (store.Place put) tt tt l
   own_later v table (store.Work luck) own l = move_later v table (store.Work luck) tt tt l
   own_later v table (store.Crash luck) own l = move_later v table (store.Crash luck) tt tt l
   own_later v table store.Start own l = move_later v table store.Start tt tt l
   own_later v table (store.Take from m) own l = absurd own
 
   late_later : (v : World) (table : ℕ) (hosted : Hosted) → hosted_at v table ≡ Some hosted → IsLater w v
-      → IsLater w (after_table v table (record hosted { made = true }) (declared_late (owner_of v table) table)).world
+      → IsLater w (after_table v table (record hosted { made = true }) (declared_late (owner_of v table) table hosted.store.disk.state)).world
   late_later v table hosted at l =
-      after_later v table (record hosted { made = true }) (declared_late (owner_of v table) table) (record { sends = tt; tasks = tt })
-      (after_fair v table hosted (record hosted { made = true }) (declared_late (owner_of v table) table) at l.addressed.fair (late_fair (schema_at v) table (owner_of v table))) l
+      let late : StoreStep = declared_late (owner_of v table) table hosted.store.disk.state in
+      after_later v table (record hosted { made = true }) late (record { sends = tt; tasks = tt })
+      (after_fair v table hosted (record hosted { made = true }) late at l.addressed.fair (late_fair (schema_at v) table (owner_of v table) hosted.store.disk.state)) l
 
   asks_own : (owners : ℕ → ℕ) (from to : Node) (m : Message) → IsFromTo owners from to m → IsAsking from m
   asks_own owners from to (SyncRequest q) is = is.0
@@ -154,8 +158,8 @@ module _ (w : World) where
 
   -- ---- a client's move
 
-  client_later : (v : World) (c : ℕ) (move : ClientMove) (shape : Shape) → IsLater w v → IsLater w (move_client c move shape v).world
-  client_later v c move shape l = go (client_at v c) refl (client_fair v c move shape l.addressed.fair)
+  client_later : (v : World) (c : ℕ) (move : ClientMove) (shape : Shape) → OpensKnown (schema_at v) move → IsLater w v → IsLater w (move_client c move shape v).world
+  client_later v c move shape opens l = go (client_at v c) refl (client_fair v c move shape opens l.addressed.fair)
     where
       go : (o : Option Client) → client_at v c ≡ o → IsFair (move_there v c move shape o).world → IsLater w (move_there v c move shape o).world
       go None at f = l
@@ -168,7 +172,7 @@ module _ (w : World) where
               tables = l.addressed.tables;
               clients = all_after (λ (q : ℕ) (x : Client). IsPlainAgenda x.agenda) v.clients c s.client plain.agenda l.addressed.clients;
               packets = λ p a. ⊎_elim (l.addressed.packets p)
-                  (requests_go (schema_at v) (owner_of v) c s.sends (fairness.step_fair (schema_at v) c shape node move (l.addressed.fair.clients c node at)).sends plain.sends p)
+                  (requests_go (schema_at v) (owner_of v) c s.sends (fairness.step_fair (schema_at v) c shape node move opens (l.addressed.fair.clients c node at)).sends plain.sends p)
                   (among_either v.packets (packets_from (owner_of v) (nodes.Client c) s.sends) p a);
             };
             stores = l.stores;
@@ -193,27 +197,28 @@ module _ (w : World) (a : IsAddressed w) (none : w.packets ≡ []) where
   no_packet : (P : Packet → Type 0) (p : Packet) → Among w.packets p → P p
   no_packet P p b = absurd (among_none p (subst (λ (ps : List Packet). Among ps p) none b))
 
-  declares_table : (table : ℕ) (schema : Schema) (luck : Luck) (o : Option Hosted) → IsFair (declared w table schema luck o) → IsDeclared w (declared w table schema luck o)
-  declares_table table schema luck (Some hosted) fair = record { addressed = a; packets = none; clients = λ c there. there }
-  declares_table table schema luck None fair = go luck fair
+  declares_table : (table : ℕ) (schema : Schema) (state : TableState) (luck : Luck) (o : Option Hosted) → IsFair (declared w table schema state luck o)
+      → IsDeclared w (declared w table schema state luck o)
+  declares_table table schema state luck (Some hosted) fair = record { addressed = a; packets = none; clients = λ c there. there }
+  declares_table table schema state luck None fair = go luck fair
     where
       new_tasks : (made : Bool) → TasksReply (tasks_in (agenda_of made))
       new_tasks true = tt
       new_tasks false = tt
 
-      with : (made : Bool) → IsFair (with_table w table schema made) → IsDeclared w (with_table w table schema made)
+      with : (made : Bool) → IsFair (with_table w table schema state made) → IsDeclared w (with_table w table schema state made)
       with made f = record {
         addressed = record {
           fair = f;
           tables = all_after (λ (q : ℕ) (x : Hosted). TasksReply (tasks_in x.store.agenda)) w.tables table _ (new_tasks made) a.tables;
           clients = a.clients;
-          packets = λ p b. no_packet (λ (x : Packet). IsFromTo (owner_of (with_table w table schema made)) x.from x.to x.message) p b;
+          packets = λ p b. no_packet (λ (x : Packet). IsFromTo (owner_of (with_table w table schema state made)) x.from x.to x.message) p b;
         };
         packets = none;
         clients = λ c there. there;
       }
 
-      go : (l : Luck) → IsFair (made_with w table schema l) → IsDeclared w (made_with w table schema l)
+      go : (l : Luck) → IsFair (made_with w table schema state l) → IsDeclared w (made_with w table schema state l)
       go messages.Done f = with true f
       go messages.FailedBefore f = with false f
       go messages.FailedAfter f = with false f
@@ -253,7 +258,8 @@ module _ (w : World) (a : IsAddressed w) (none : w.packets ≡ []) where
         clients = λ c there. there;
       }
       go (events.Gate number) d f = record { addressed = a; packets = none; clients = λ c there. there }
-      go (events.Table table schema) d f = declares_table table schema (first_luck lucks.calls) (hosted_at w table) f
+      go (events.Table table schema) d f = declares_table table schema states.Live (first_luck lucks.calls) (hosted_at w table) f
+      go (events.Draft table schema) d f = declares_table table schema states.Draft (first_luck lucks.calls) (hosted_at w table) f
       go (events.Client c gate tables) d f = declares_client c tables (first_luck lucks.calls) (client_at w c) f
       go other d f = absurd (true≢false (sym d))
 

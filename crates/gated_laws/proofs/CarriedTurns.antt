@@ -49,10 +49,12 @@ events_of turns = map (λ (turn : Turn). turn.event) turns
 
 abbrev pub IsNoTable : Event → Type 0
 IsNoTable (events.Table table schema) = ⊥
+IsNoTable (events.Draft table schema) = ⊥
 IsNoTable other = Unit {0}
 
 lone_no_table : (event : Event) (lines : List Line) → IsLone event lines → IsNoTable event
 lone_no_table (events.Table table schema) lines is = is
+lone_no_table (events.Draft table schema) lines is = is
 lone_no_table other lines is = tt
 
 -- what tables make of a map, and no other event does
@@ -82,10 +84,12 @@ module _ {X : Type 0} (by : Event → ℕ → X → X) (f : List Event → ℕ �
 
 no_scheme : (event : Event) → IsNoTable event → (table : ℕ) (x : Scheme) → declared_by event table x ≡ x
 no_scheme (events.Table number schema) none table x = absurd none
+no_scheme (events.Draft number schema) none table x = absurd none
 no_scheme other none table x = refl
 
 no_schema : (event : Event) → IsNoTable event → (table : ℕ) (x : Option Schema) → schema_by event table x ≡ x
 no_schema (events.Table number schema) none table x = absurd none
+no_schema (events.Draft number schema) none table x = absurd none
 no_schema other none table x = refl
 
 schemes_carried : (turns others : List Turn) → AreCarried turns others → scheme_for (events_of turns) ≡ scheme_for (events_of others)

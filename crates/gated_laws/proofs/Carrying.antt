@@ -81,9 +81,14 @@ module _ (v : Wire) (c : ℕ) (part : Part) (from other : Node) (lucks : Lucks) 
       by_taken x (at_client.Tears row) = refl
       by_taken x at_client.Waits = by_luck (with_arriving c x.arriving v) (first_luck lucks.calls)
 
+      by_closed : (x : Arrived) (closed : Bool)
+          → (if closed then untaken v one lucks else wires.client_taken v c one lucks x) ≡ (if closed then untaken v two lucks else wires.client_taken v c two lucks x)
+      by_closed x true = refl
+      by_closed x false = by_taken x x.taken
+
       by_opened : (o : Option TableDisk) → by_table v c one lucks o ≡ by_table v c two lucks o
       by_opened None = refl
-      by_opened (Some opened) = let x : Arrived = arrived opened (arriving_at v c) part in by_taken x x.taken
+      by_opened (Some opened) = by_closed (arrived opened (arriving_at v c) part) opened.closed
 
       by_agenda : (node : Client) (agenda : Option (List ClientTask))
           → by_client v c one lucks (Some (record node { agenda = agenda })) ≡ by_client v c two lucks (Some (record node { agenda = agenda }))

@@ -3,9 +3,11 @@ use Rattle.std.proofs.Common.{◌≡◌, ℕ, zero, suc, Bool, true, false, List
 use Rattle.std.specs.Prelude.{◌+◌, ◌&&◌, drop, slice_get, if◌then◌else◌}
 use Rattle.stab_base.specs.declared.node.Node.{Node}
 use Rattle.stab_base.specs.declared.node.Node.TheVariants as nodes
+use Rattle.row_value.specs.declared.schema.Schema.{Schema}
 use Rattle.table_model.specs.declared.event.Event.{Event}
 use Rattle.table_model.specs.declared.event.Event.TheVariants as events
 use Rattle.table_model.specs.declared.line.RowPair.{RowPair}
+use Rattle.table_model.specs.declared.table_state.TableState.TheVariants as states
 use Rattle.conflicts.specs.declared.stored.Stored.{Stored}
 use Rattle.step_tables.specs.Facts.{Answer}
 use Rattle.step_tables.specs.Facts as facts
@@ -13,7 +15,7 @@ use Rattle.step_tables.specs.Members.{Among}
 use Rattle.step_tables.specs.Messages.{Message, Luck, table_of}
 use Rattle.step_tables.specs.Messages as messages
 use Rattle.step_tables.specs.StoreMoves as store
-use Rattle.step_tables.specs.StoreMoves.{StoreTask, StoreMove}
+use Rattle.step_tables.specs.StoreMoves.{SidePut, StoreTask, StoreMove}
 use Rattle.step_tables.specs.ClientMoves as client
 use Rattle.step_tables.specs.ClientMoves.{Client, ClientTask, ClientMove, Shape, no_shape}
 use Rattle.step_tables.proofs.Lists.{among_get}
@@ -25,9 +27,10 @@ use Rattle.world_tables.specs.World.{client_starts}
 use Rattle.world_tables.specs.World.{client_falls, gets_tasks, client_follows_from, answering, answered, refused, unless_down, call_there, call, listed, first_shape, other_shapes, chosen_of}
 use Rattle.world_tables.specs.World.{client_pairs}
 use Rattle.world_tables.specs.World.{resolve_by, plan_size, resolve_each, resolve_all, take_read, take_at, to_hosted, to_there, carried, delivered, row_read, store_shows, history_lines, chunk_names}
-use Rattle.world_tables.specs.World.{worked, all_worked, crashed, started, linked, step}
+use Rattle.world_tables.specs.World.{worked, all_worked, crashed, started, linked, schema_at, puts_beside, opens, created, dropped, step}
 use Rattle.world_tables.specs.Sound.{is_declaration}
 use Rattle.world_laws.proofs.Calls.{call_is}
+use Rattle.fair_laws.specs.Fair.{OpensKnown}
 
 -- a move that brings no message
 abbrev pub IsOwnMove : StoreMove → Type 0
@@ -36,9 +39,10 @@ IsOwnMove other = Unit {0}
 
 module _ (P : World → Type 0) (beside : (w : World) (holds downs cuts : List Node) → P w → P (record w { holds = holds; downs = downs; cuts = cuts }))
     (at_table : (w : World) (table : ℕ) (move : StoreMove) → IsOwnMove move → P w → P (move_table table move w).world)
-    (late : (w : World) (table : ℕ) (hosted : Hosted) → hosted_at w table ≡ Some hosted → P w → P (after_table w table (record hosted { made = true }) (declared_late (owner_of w table) table)).world)
+    (late : (w : World) (table : ℕ) (hosted : Hosted) → hosted_at w table ≡ Some hosted → P w
+    → P (after_table w table (record hosted { made = true }) (declared_late (owner_of w table) table hosted.store.disk.state)).world)
     (takes : (w : World) (p : Packet) → Among w.packets p → P w → P (move_table (table_of p.message) (store.Take p.from p.message) w).world)
-    (at_client : (w : World) (c : ℕ) (move : ClientMove) (shape : Shape) → P w → P (move_client c move shape w).world) where
+    (at_client : (w : World) (c : ℕ) (move : ClientMove) (shape : Shape) → OpensKnown (schema_at w) move → P w → P (move_client c move shape w).world) where
   unless : (m : Moved) (f : World → Moved) → P m.world → (P m.world → P (f m.world).world) → P (and_unless m f).world
   unless m f a b = go m.failed
     where
@@ -100,7 +104,7 @@ module _ (P : World → Type 0) (beside : (w : World) (holds downs cuts : List N
   a_table_starts w table p = go (hosted_at w table) refl
     where
       made : (hosted : Hosted) (b : Bool) → hosted_at w table ≡ Some hosted
-          → P (if b then move_table table store.Start w else after_table w table (record hosted { made = true }) (declared_late (owner_of w table) table)).world
+          → P (if b then move_table table store.Start w else after_table w table (record hosted { made = true }) (declared_late (owner_of w table) table hosted.store.disk.state)).world
       made hosted true at = at_table w table store.Start tt p
       made hosted false at = late w table hosted at p
 
@@ -143,7 +147,7 @@ module _ (P : World → Type 0) (beside : (w : World) (holds downs cuts : List N
   client_work : (c : ℕ) (tasks : List ClientTask) (lucks : List Luck) (w : World) → P w → P (client_works c tasks lucks w).world
   client_work c [] lucks w p = p
   client_work c (task ∷ tasks) lucks w p =
-      client_work c tasks (other_lucks lucks) (move_client c (client.Work (first_luck lucks)) no_shape w).world (at_client w c (client.Work (first_luck lucks)) no_shape p)
+      client_work c tasks (other_lucks lucks) (move_client c (client.Work (first_luck lucks)) no_shape w).world (at_client w c (client.Work (first_luck lucks)) no_shape tt p)
 
   follows_client : (c : ℕ) (lucks : List Luck) (w : World) → P w → P (client_follows c lucks w).world
   follows_client c lucks w p = go (has_node w.holds (nodes.Client c))
@@ -154,18 +158,18 @@ module _ (P : World → Type 0) (beside : (w : World) (holds downs cuts : List N
 
   client_write : (c : ℕ) (luck : Luck) (tasks : List ClientTask) (w : World) → P w → P (client_writes c luck tasks w).world
   client_write c luck [] w p = p
-  client_write c luck (task ∷ tasks) w p = at_client w c (client.Work luck) no_shape p
+  client_write c luck (task ∷ tasks) w p = at_client w c (client.Work luck) no_shape tt p
 
   a_client_starts : (c : ℕ) (shape : Shape) (lucks : List Luck) (w : World) → P w → P (client_starts c shape lucks w).world
   a_client_starts c shape lucks w p = go (first_luck lucks)
     where
       go : (luck : Luck) → P (starts_by c shape luck (other_lucks lucks) w).world
-      go messages.Done = follows_client c (other_lucks lucks) (move_client c client.Start shape w).world (at_client w c client.Start shape p)
+      go messages.Done = follows_client c (other_lucks lucks) (move_client c client.Start shape w).world (at_client w c client.Start shape tt p)
       go messages.FailedBefore = p
       go messages.FailedAfter = p
 
   a_client_falls : (c : ℕ) (w : World) → P w → P (client_falls c w).world
-  a_client_falls c w p = at_client w c (client.Crash messages.FailedBefore) no_shape p
+  a_client_falls c w p = at_client w c (client.Crash messages.FailedBefore) no_shape tt p
 
   up : (w : World) (node : Node) (s : WorldStep) → P w → P s.world → P (unless_down w node s).world
   up w node s p now = go (is_down w node)
@@ -174,21 +178,22 @@ module _ (P : World → Type 0) (beside : (w : World) (holds downs cuts : List N
       go true = p
       go false = now
 
-  called : (w : World) (c : ℕ) (move : ClientMove) (shape : Shape) (lucks : List Luck) (o : Option Client) → client_at w c ≡ o → P w → P (call_there w c move shape lucks o).world
-  called w c move shape lucks o at p = call_is (λ (s : WorldStep). P s.world) w c move shape lucks (λ r before. p) (a_client_falls c w p) does o at
+  called : (w : World) (c : ℕ) (move : ClientMove) (shape : Shape) (lucks : List Luck) (o : Option Client) → client_at w c ≡ o → OpensKnown (schema_at w) move → P w
+      → P (call_there w c move shape lucks o).world
+  called w c move shape lucks o at opens p = call_is (λ (s : WorldStep). P s.world) w c move shape lucks (λ r before. p) (a_client_falls c w p) (λ take. p) does o at
     where
       v : World
       v = (move_client c move shape w).world
 
       later : (node : Client) (b : Bool) → P (if b then client_follows c (other_lucks lucks) v else still v).world
-      later node true = follows_client c (other_lucks lucks) v (at_client w c move shape p)
-      later node false = at_client w c move shape p
+      later node true = follows_client c (other_lucks lucks) v (at_client w c move shape opens p)
+      later node false = at_client w c move shape opens p
 
       does : (node : Client) → client_at w c ≡ Some node → P (client_follows_from node.agenda c (other_lucks lucks) v).world
       does node is = later node (gets_tasks node.agenda v c)
 
-  calls : (w : World) (c : ℕ) (move : ClientMove) (shape : Shape) (lucks : List Luck) → P w → P (call w c move shape lucks).world
-  calls w c move shape lucks p = called w c move shape lucks (client_at w c) refl p
+  calls : (w : World) (c : ℕ) (move : ClientMove) (shape : Shape) (lucks : List Luck) → OpensKnown (schema_at w) move → P w → P (call w c move shape lucks).world
+  calls w c move shape lucks opens p = called w c move shape lucks (client_at w c) refl opens p
 
   -- a step whose answer is another one
   abbrev with_answer : WorldStep → Option Answer → WorldStep
@@ -211,7 +216,7 @@ module _ (P : World → Type 0) (beside : (w : World) (holds downs cuts : List N
 
   module _ (c table : ℕ) (by : Stored) where
     resolves : (shape : Shape) (pair : RowPair) (luck : Luck) (w : World) → P w → P (resolve_by c table by shape pair luck w).world
-    resolves shape pair messages.Done w p = at_client w c (client.Resolve table pair.row pair.version (chosen_of by pair.row (client_at w c) table)) shape p
+    resolves shape pair messages.Done w p = at_client w c (client.Resolve table pair.row pair.version (chosen_of by pair.row (client_at w c) table)) shape tt p
     resolves shape pair messages.FailedBefore w p = a_client_falls c w p
     resolves shape pair messages.FailedAfter w p = a_client_falls c w p
 
@@ -250,35 +255,29 @@ module _ (P : World → Type 0) (beside : (w : World) (holds downs cuts : List N
   -- ---- deliveries, and what is read
 
   module _ (w : World) (p : P w) where
-    to_table : (packet : Packet) → Among w.packets packet → (lucks : List Luck) (o : Option Hosted)
-        → P (to_hosted w (table_of packet.message) (store.Take packet.from packet.message) lucks o).world
-    to_table packet a lucks None = p
-    to_table packet a lucks (Some hosted) = go hosted.store.agenda
+    to_table : (table : ℕ) (move : StoreMove) → P (move_table table move w).world → (lucks : List Luck) (o : Option Hosted) → P (to_hosted w table move lucks o).world
+    to_table table move first lucks None = p
+    to_table table move first lucks (Some hosted) = go hosted.store.agenda
       where
-        table : ℕ
-        table = table_of packet.message
-
-        first : P (move_table table (store.Take packet.from packet.message) w).world
-        first = takes w packet a p
-
-        read : (luck : Luck) → P (take_read w table hosted (store.Take packet.from packet.message) (other_lucks lucks) luck).world
-        read messages.Done = follows_table table (other_lucks lucks) (move_table table (store.Take packet.from packet.message) w).world first
+        read : (luck : Luck) → P (take_read w table hosted move (other_lucks lucks) luck).world
+        read messages.Done = follows_table table (other_lucks lucks) (move_table table move w).world first
         read messages.FailedBefore = a_store_falls (owner_of w table) w p
         read messages.FailedAfter = a_store_falls (owner_of w table) w p
 
-        go : (o : Option (List StoreTask)) → P (take_at w table hosted (store.Take packet.from packet.message) lucks o).world
+        go : (o : Option (List StoreTask)) → P (take_at w table hosted move lucks o).world
         go None = first
         go (Some (task ∷ more)) = first
         go (Some []) = read (first_luck lucks)
 
     brings : (packet : Packet) → Among w.packets packet → (shape : Shape) (lucks : List Luck) (to : Node) → P (carried w packet shape lucks to).world
-    brings packet a shape lucks (nodes.Store number) = up w (nodes.Store number) _ p (to_table packet a lucks (hosted_by w number (table_of packet.message)))
+    brings packet a shape lucks (nodes.Store number) =
+        up w (nodes.Store number) _ p (to_table (table_of packet.message) (store.Take packet.from packet.message) (takes w packet a p) lucks (hosted_by w number (table_of packet.message)))
     brings packet a shape lucks (nodes.Gate gate) = p
     brings packet a shape lucks (nodes.Client c) = go (client_at w c) refl
       where
         go : (o : Option Client) → client_at w c ≡ o → P (to_there w c packet.message shape lucks o).world
         go None at = p
-        go (Some node) at = called w c (client.Take packet.message) shape lucks (Some node) at p
+        go (Some node) at = called w c (client.Take packet.message) shape lucks (Some node) at tt p
 
     delivers : (shape : Shape) (lucks : List Luck) (k : ℕ) (o : Option Packet) → slice_get w.packets k ≡ o → P (delivered w shape lucks o).world
     delivers shape lucks k None at = p
@@ -309,6 +308,25 @@ module _ (P : World → Type 0) (beside : (w : World) (holds downs cuts : List N
     names_chunks table None = p
     names_chunks table (Some hosted) = up w (nodes.Store (owner_of w table)) _ p p
 
+    -- ---- tables that are made and dropped
+
+    puts : (number table : ℕ) (put : SidePut) (lucks : List Luck) → P (puts_beside w number table put lucks).world
+    puts number table put lucks = up w (nodes.Store number) _ p (to_table table (store.Place put) (at_table w table (store.Place put) tt p) lucks (hosted_by w number table))
+
+    opens_at : (c table : ℕ) (shape : Shape) (lucks : List Luck) (o : Option Schema) → schema_at w table ≡ o → P (opens w c table shape lucks o).world
+    opens_at c table shape lucks None is = p
+    opens_at c table shape lucks (Some schema) is = calls w c (client.Alter table (client.Opens schema)) shape lucks is p
+
+    creates : (table : ℕ) (shape : Shape) (lucks : List Luck) (node : Node) → P (created w table shape lucks node).world
+    creates table shape lucks (nodes.Store number) = puts number table (store.PutState states.Live) lucks
+    creates table shape lucks (nodes.Client c) = opens_at c table shape lucks (schema_at w table) refl
+    creates table shape lucks (nodes.Gate gate) = p
+
+    drops : (table : ℕ) (shape : Shape) (lucks : List Luck) (node : Node) → P (dropped w table shape lucks node).world
+    drops table shape lucks (nodes.Store number) = puts number table (store.PutState states.Dropped) lucks
+    drops table shape lucks (nodes.Client c) = calls w c (client.Alter table client.Closes) shape lucks tt p
+    drops table shape lucks (nodes.Gate gate) = p
+
     -- ---- what is done to a node
 
     does_work : (lucks : List Luck) (node : Node) → P (worked w lucks node).world
@@ -323,7 +341,7 @@ module _ (P : World → Type 0) (beside : (w : World) (holds downs cuts : List N
 
     does_crash : (count : ℕ) (lucks : List Luck) (node : Node) → P (crashed w count lucks node).world
     does_crash count lucks (nodes.Store number) = crashes number count lucks w p
-    does_crash count lucks (nodes.Client c) = at_client w c (client.Crash (crash_luck count (other_lucks lucks) (first_luck lucks))) no_shape p
+    does_crash count lucks (nodes.Client c) = at_client w c (client.Crash (crash_luck count (other_lucks lucks) (first_luck lucks))) no_shape tt p
     does_crash count lucks (nodes.Gate gate) = p
 
     does_start : (shape : Shape) (lucks : List Luck) (node : Node) → P (started w shape lucks node).world
@@ -345,21 +363,24 @@ module _ (P : World → Type 0) (beside : (w : World) (holds downs cuts : List N
     step_keeps (events.Store number) plain lucks = absurd (true≢false plain)
     step_keeps (events.Gate number) plain lucks = absurd (true≢false plain)
     step_keeps (events.Table table schema) plain lucks = absurd (true≢false plain)
+    step_keeps (events.Draft table schema) plain lucks = absurd (true≢false plain)
     step_keeps (events.Client c gate tables) plain lucks = absurd (true≢false plain)
-    step_keeps (events.Write c table row x) plain lucks = calls w c (client.Write table row x) lucks.shape lucks.calls p
-    step_keeps (events.Edit c table row x) plain lucks = calls w c (client.Change table row x) lucks.shape lucks.calls p
+    step_keeps (events.Write c table row x) plain lucks = calls w c (client.Write table row x) lucks.shape lucks.calls tt p
+    step_keeps (events.Edit c table row x) plain lucks = calls w c (client.Change table row x) lucks.shape lucks.calls tt p
     step_keeps (events.Link c b) plain lucks = links c b (client_at w c)
-    step_keeps (events.Show c table row) plain lucks = calls w c (client.Show table row) lucks.shape lucks.calls p
-    step_keeps (events.Sum c table row) plain lucks = calls w c (client.Sum table row) lucks.shape lucks.calls p
-    step_keeps (events.Sync c table) plain lucks = calls w c (client.Sync table) lucks.shape lucks.calls p
-    step_keeps (events.Pull c table) plain lucks = calls w c (client.Next table lucks.tears lucks.asks) lucks.shape lucks.calls p
-    step_keeps (events.BeginCr c table) plain lucks = calls w c (client.BeginCr table) lucks.shape lucks.calls p
-    step_keeps (events.Conflicts c table) plain lucks = lists (call w c (client.Conflicts table) lucks.shape lucks.calls) (calls w c (client.Conflicts table) lucks.shape lucks.calls p)
-    step_keeps (events.EndCr c table) plain lucks = calls w c (client.EndCr table) lucks.shape lucks.calls p
-    step_keeps (events.Resolve c table row seen choice) plain lucks = calls w c (client.Resolve table row seen choice) lucks.shape lucks.calls p
+    step_keeps (events.Create node table) plain lucks = creates table lucks.shape lucks.calls node
+    step_keeps (events.Drop node table) plain lucks = drops table lucks.shape lucks.calls node
+    step_keeps (events.Show c table row) plain lucks = calls w c (client.Show table row) lucks.shape lucks.calls tt p
+    step_keeps (events.Sum c table row) plain lucks = calls w c (client.Sum table row) lucks.shape lucks.calls tt p
+    step_keeps (events.Sync c table) plain lucks = calls w c (client.Sync table) lucks.shape lucks.calls tt p
+    step_keeps (events.Pull c table) plain lucks = calls w c (client.Next table lucks.tears lucks.asks) lucks.shape lucks.calls tt p
+    step_keeps (events.BeginCr c table) plain lucks = calls w c (client.BeginCr table) lucks.shape lucks.calls tt p
+    step_keeps (events.Conflicts c table) plain lucks = lists (call w c (client.Conflicts table) lucks.shape lucks.calls) (calls w c (client.Conflicts table) lucks.shape lucks.calls tt p)
+    step_keeps (events.EndCr c table) plain lucks = calls w c (client.EndCr table) lucks.shape lucks.calls tt p
+    step_keeps (events.Resolve c table row seen choice) plain lucks = calls w c (client.Resolve table row seen choice) lucks.shape lucks.calls tt p
     step_keeps (events.ResolveAll c table by) plain lucks =
         resolves_all c table by w p lucks.shapes (other_lucks lucks.calls) (call w c (client.ResolveAll table by) lucks.shape lucks.calls)
-        (calls w c (client.ResolveAll table by) lucks.shape lucks.calls p)
+        (calls w c (client.ResolveAll table by) lucks.shape lucks.calls tt p)
     step_keeps (events.Deliver packet) plain lucks = delivers lucks.shape lucks.calls packet (slice_get w.packets packet) refl
     step_keeps (events.StoreShow table row) plain lucks = shows table row lucks.calls (hosted_at w table)
     step_keeps (events.History table) plain lucks = tells_history table (hosted_at w table)

@@ -215,6 +215,7 @@ declares_wire v k none whole event is built lucks = go event is built (event_dec
     go (events.Store number) d b w = of (events.Store number) b w (append-nil v.packets ∙ none)
     go (events.Gate number) d b w = of (events.Gate number) b w (append-nil v.packets ∙ none)
     go (events.Table table schema) d b w = of (events.Table table schema) b w (append-nil v.packets ∙ none)
+    go (events.Draft table schema) d b w = of (events.Draft table schema) b w (append-nil v.packets ∙ none)
     go (events.Client c gate tables) d b w = of (events.Client c gate tables) b w (append-nil v.packets ∙ none)
     go other d b w = absurd (true≢false (sym d))
 

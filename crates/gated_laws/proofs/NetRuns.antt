@@ -230,6 +230,7 @@ module _ (n : Net) (k : IsSilent n) where
   declares_net (events.Store number) d built lucks = declares_more (events.Store number) _ (declares_on (events.Store number) (events.Store number) lucks refl built refl refl)
   declares_net (events.Gate number) d built lucks = declares_gate number lucks (gate_at n number)
   declares_net (events.Table table schema) d built lucks = declares_more (events.Table table schema) _ (declares_on (events.Table table schema) (events.Table table schema) lucks refl built refl refl)
+  declares_net (events.Draft table schema) d built lucks = declares_more (events.Draft table schema) _ (declares_on (events.Draft table schema) (events.Draft table schema) lucks refl built refl refl)
   declares_net (events.Client c number tables) d built lucks = declares_client c number tables lucks built (client_at n.wire.world c) refl
   declares_net other d built lucks = absurd (true≢false (sym d))
 

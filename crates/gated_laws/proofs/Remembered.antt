@@ -144,7 +144,11 @@ module _ (v : Wire) (r : IsRemembered v) where
 
   table_shaped : (c : ℕ) (p : PartPacket) (lucks : Lucks) → is_client_up (client_at v.world c) ≡ true → (o : Option TableDisk) → IsShaped v (by_table v c p lucks o)
   table_shaped c p lucks up None = untaken_shaped p lucks
-  table_shaped c p lucks up (Some opened) = taken_shaped c p lucks (arrived opened (arriving_at v c) p.part) up
+  table_shaped c p lucks up (Some opened) = go opened.closed
+    where
+      go : (closed : Bool) → IsShaped v (if closed then untaken v p lucks else client_taken v c p lucks (arrived opened (arriving_at v c) p.part))
+      go true = untaken_shaped p lucks
+      go false = taken_shaped c p lucks (arrived opened (arriving_at v c) p.part) up
 
   client_shaped : (c : ℕ) (p : PartPacket) (lucks : Lucks) (o : Option Client) → client_at v.world c ≡ o → IsShaped v (by_client v c p lucks o)
   client_shaped c p lucks None at = untaken_shaped p lucks

@@ -13,7 +13,7 @@ use Rattle.step_tables.specs.Messages.{Request, Pair, Outcome, Message, Send, Lu
 use Rattle.step_tables.specs.Messages as messages
 use Rattle.step_tables.specs.Store.{Stored, current_of}
 use Rattle.step_tables.specs.StoreMoves as store
-use Rattle.step_tables.specs.StoreMoves.{StoreDisk, StoreTask, TableStore, StoreMove, StoreStep, store_step}
+use Rattle.step_tables.specs.StoreMoves.{StoreDisk, SidePut, StoreTask, TableStore, StoreMove, StoreStep, store_step}
 use Rattle.world_tables.specs.World.{tasks_in}
 
 -- an answer to a client
@@ -108,7 +108,12 @@ module _ (g : Scheme) (size table : ℕ) (d : StoreDisk) (from : Node) where
   taken_replies (Some []) (TornRowRequest q) own t = sending_replies d _ (to_client from q.client own, tt)
   taken_replies (Some []) (TornRowResponse q) own t = quiet_replies d (Some []) _ tt
 
--- ---- a write, a crash and a start
+-- ---- a write beside the rows, any write, a crash and a start
+
+placed_replies : (table : ℕ) (d : StoreDisk) (agenda : Option (List StoreTask)) (put : SidePut) → TasksReply (tasks_in agenda) → IsReplying (store.placed table d agenda put)
+placed_replies table d None put t = quiet_replies d None _ tt
+placed_replies table d (Some (task ∷ more)) put t = quiet_replies d (Some (task ∷ more)) _ t
+placed_replies table d (Some []) put t = quiet_replies d (Some (store.beside_task table put ∷ [])) _ (tt, tt)
 
 worked_replies : (d : StoreDisk) (agenda : Option (List StoreTask)) (luck : Luck) → TasksReply (tasks_in agenda) → IsReplying (store.worked d agenda luck)
 worked_replies d None messages.Done t = record { sends = tt; tasks = tt }
@@ -145,6 +150,7 @@ started_replies number table d None t = go d.pending
 
 pub move_replies : (number : ℕ) (g : Scheme) (size table : ℕ) (s : TableStore) (move : StoreMove) → AsksOwn move → TasksReply (tasks_in s.agenda) → IsReplying (store_step number g size table s move)
 move_replies number g size table s (store.Take from m) own t = taken_replies g size table s.disk from s.agenda m own t
+move_replies number g size table s (store.Place put) own t = placed_replies table s.disk s.agenda put t
 move_replies number g size table s (store.Work luck) own t = worked_replies s.disk s.agenda luck t
 move_replies number g size table s (store.Crash luck) own t = crashed_replies s.disk s.agenda luck
 move_replies number g size table s store.Start own t = started_replies number table s.disk s.agenda t

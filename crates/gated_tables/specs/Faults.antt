@@ -12,6 +12,7 @@ use Rattle.gated_tables.specs.Net.{Net, net_step}
 -- whether a device fault shows in an event, as on the wire; a gateway has no devices
 abbrev pub is_net_fault : Net → Event → Lucks → Bool
 is_net_fault n (events.Table table schema) lucks = is_wire_fault n.wire (events.Table table schema) lucks
+is_net_fault n (events.Draft table schema) lucks = is_wire_fault n.wire (events.Draft table schema) lucks
 is_net_fault n (events.Client c gate tables) lucks = is_wire_fault n.wire (events.Client c gate tables) lucks
 is_net_fault n (events.Crash (nodes.Gate number) calls pick) lucks = false
 is_net_fault n (events.Crash node calls pick) lucks = is_wire_fault n.wire (events.Crash node calls pick) lucks

@@ -43,7 +43,8 @@ HasWidths (lines.Entry table entry) = HasEntryText table entry
 HasWidths (lines.Pair pair) = HasPairText pair
 HasWidths (lines.Fact fact) = HasFactText fact
 
--- ---- a stored row has a value, a row that is shown by digests has an object, and of chunks that are named there is one
+-- ---- a stored row has a value, a row that is shown by digests has an object, and of chunks that are named there is
+-- one
 
 abbrev pub HasObjects : ShownSum → Type 0
 HasObjects (sums.Clean version row) = HasObject row.objects

@@ -156,6 +156,10 @@ fn know_client_fact(fact: &ClientFact)
             let _table: u32 = *table;
             let _position: u64 = *position;
         }
+        ClientFact::Opened { client, table } | ClientFact::Dropped { client, table } => {
+            let _client: u32 = *client;
+            let _table: u32 = *table;
+        }
     }
 }
 
@@ -187,6 +191,9 @@ fn know_fact(fact: &Fact)
         }
         Fact::StoreRecovered { store, table } => {
             let _store: u32 = *store;
+            let _table: u32 = *table;
+        }
+        Fact::Made { table } | Fact::Unmade { table } => {
             let _table: u32 = *table;
         }
     }

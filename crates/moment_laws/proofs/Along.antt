@@ -24,7 +24,8 @@ module _ (P : ℕ → Hosted → Type 0)
     (works : (w : World) (table : ℕ) (hosted : Hosted) (luck : Luck) → P table hosted → P table (behind_step hosted (table_step w table hosted (store.Work luck))))
     (crashes : (w : World) (table : ℕ) (hosted : Hosted) (luck : Luck) → P table hosted → P table (behind_step hosted (table_step w table hosted (store.Crash luck))))
     (starts : (w : World) (table : ℕ) (hosted : Hosted) → hosted.made ≡ true → P table hosted → P table (behind_step hosted (table_step w table hosted store.Start)))
-    (late : (w : World) (table : ℕ) (hosted : Hosted) → hosted.made ≡ false → P table hosted → P table (behind_step (record hosted { made = true }) (declared_late (owner_of w table) table))) where
+    (late : (w : World) (table : ℕ) (hosted : Hosted) → hosted.made ≡ false → P table hosted → P table (behind_step (record hosted { made = true })
+    (declared_late (owner_of w table) table hosted.store.disk.state))) where
   pub put_all : (w : World) (table : ℕ) (new : Hosted) → All P w → P table new → (s : StoreStep) → (hosted : Hosted) → behind_step hosted s ≡ new → All P (after_table w table hosted s).world
   put_all w table new all p s hosted is q found at = ⊎_elim
       (λ e. let both : Some (behind_step hosted s) ≡ Some found = sym e.1 ∙ at in let same : behind_step hosted s ≡ found = cc in subst (P q) (sym is ∙ same) (subst (λ (n : ℕ). P n new) (sym e.0) p))
@@ -106,10 +107,13 @@ module _ (P : ℕ → Hosted → Type 0)
       go None at = all
       go (Some hosted) at = made hosted.made refl
         where
-          made : (b : Bool) → hosted.made ≡ b → All P (if b then move_table table store.Start w else after_table w table (record hosted { made = true }) (declared_late (owner_of w table) table)).world
+          step : StoreStep
+          step = declared_late (owner_of w table) table hosted.store.disk.state
+
+          made : (b : Bool) → hosted.made ≡ b → All P (if b then move_table table store.Start w else after_table w table (record hosted { made = true }) step).world
           made true is = subst (λ (o : Option Hosted). All P (move_hosted w table store.Start o).world) (sym at)
               (put_all w table _ all (starts w table hosted is (all table hosted at)) (table_step w table hosted store.Start) hosted refl)
-          made false is = put_all w table _ all (late w table hosted is (all table hosted at)) (declared_late (owner_of w table) table) (record hosted { made = true }) refl
+          made false is = put_all w table _ all (late w table hosted is (all table hosted at)) step (record hosted { made = true }) refl
 
   pub tables_start_all : (tables : List ℕ) (lucks : List Luck) (w : World) → All P w → All P (tables_start tables lucks w).world
   tables_start_all [] lucks w all = all

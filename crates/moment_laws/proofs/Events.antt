@@ -8,20 +8,22 @@ use Rattle.row_value.specs.declared.schema.Schema.{Schema}
 use Rattle.table_model.specs.declared.line.RowPair.{RowPair}
 use Rattle.table_model.specs.declared.event.Event.{Event}
 use Rattle.table_model.specs.declared.event.Event.TheVariants as events
+use Rattle.table_model.specs.declared.table_state.TableState.{TableState}
+use Rattle.table_model.specs.declared.table_state.TableState.TheVariants as states
 use Rattle.step_tables.specs.Facts as facts
 use Rattle.step_tables.specs.Facts.{Answer, Refusal}
 use Rattle.step_tables.specs.Messages.{Luck, Message, table_of}
 use Rattle.step_tables.specs.Messages as messages
 use Rattle.step_tables.specs.StoreMoves as store
-use Rattle.step_tables.specs.StoreMoves.{StoreTask, StoreMove, StoreStep}
+use Rattle.step_tables.specs.StoreMoves.{SidePut, StoreTask, StoreMove, StoreStep}
 use Rattle.step_tables.specs.ClientMoves as client
 use Rattle.step_tables.specs.ClientMoves.{Client, ClientTask, ClientMove, Shape, client_step, is_cut_off, kept_out}
 use Rattle.world_tables.specs.World.{World, Packet, Hosted, WorldStep, owner_of, has_store, hosted_at, client_at, has_node, is_down, still}
 use Rattle.world_tables.specs.World.{table_step, move_table, move_there, move_client, first_luck, other_lucks, client_works, client_tasks, client_until_idle, client_follows, client_writes, client_starts, store_falls, busy_table, tasks_of}
 use Rattle.world_tables.specs.World.{crash_luck, declared_late, store_starts}
-use Rattle.world_tables.specs.World.{answering, answered, refused, unless_down, agenda_of, with_table, declared, joined, gets_tasks}
+use Rattle.world_tables.specs.World.{answering, answered, refused, unless_down, new_hosted, with_table, declared, joined, gets_tasks, schema_at, hosted_by}
 use Rattle.world_tables.specs.World.{call_there, take_read, take_at, to_hosted, to_there, carried, delivered, row_read, store_shows, chunk_names, history_lines, worked, all_worked, crashed}
-use Rattle.world_tables.specs.World.{started, step}
+use Rattle.world_tables.specs.World.{started, table_of_move, is_closed, closed_answer, unless_closed, puts_beside, opens, created, dropped, step}
 use Rattle.world_tables.specs.World.{Lucks, starts_by, client_falls, is_cut, with_link, unless_cut, unless_kept, is_resolving, calls, call, linked}
 use Rattle.world_tables.specs.World.{Moved, and_then, and_unless, listed, first_shape, other_shapes, chosen_of, client_pairs, resolve_by, plan_size, resolve_each, resolve_all}
 use Rattle.world_tables.specs.World as world
@@ -30,13 +32,9 @@ use Rattle.world_laws.proofs.Looks.{look_cases}
 use Rattle.moment_laws.proofs.Along as along
 use Rattle.moment_laws.proofs.Along.{behind_step, All}
 
--- a table that is declared
-abbrev pub new_hosted : Bool → Hosted
-new_hosted made = record { store = record { disk = record { items = []; pending = None; left = [] }; agenda = agenda_of made }; history = []; made = made }
-
 -- what a table is that this event declares
 abbrev pub Fresh : (ℕ → Hosted → Type 0) → World → Type 0
-Fresh P w = (table : ℕ) → hosted_at w table ≡ None → (made : Bool) → P table (new_hosted made)
+Fresh P w = (table : ℕ) → hosted_at w table ≡ None → (state : TableState) (made : Bool) → P table (new_hosted state made)
 
 -- a step whose answer is another one
 abbrev with_answer : WorldStep → Option Answer → WorldStep
@@ -46,7 +44,9 @@ module _ (P : ℕ → Hosted → Type 0)
     (works : (w : World) (table : ℕ) (hosted : Hosted) (luck : Luck) → P table hosted → P table (behind_step hosted (table_step w table hosted (store.Work luck))))
     (crashes : (w : World) (table : ℕ) (hosted : Hosted) (luck : Luck) → P table hosted → P table (behind_step hosted (table_step w table hosted (store.Crash luck))))
     (starts : (w : World) (table : ℕ) (hosted : Hosted) → hosted.made ≡ true → P table hosted → P table (behind_step hosted (table_step w table hosted store.Start)))
-    (late : (w : World) (table : ℕ) (hosted : Hosted) → hosted.made ≡ false → P table hosted → P table (behind_step (record hosted { made = true }) (declared_late (owner_of w table) table))) where
+    (late : (w : World) (table : ℕ) (hosted : Hosted) → hosted.made ≡ false → P table hosted → P table (behind_step (record hosted { made = true })
+    (declared_late (owner_of w table) table hosted.store.disk.state)))
+    (places : (w : World) (table : ℕ) (hosted : Hosted) (put : SidePut) → P table hosted → P table (behind_step hosted (table_step w table hosted (store.Place put)))) where
   falls : (number : ℕ) (w : World) → All P w → All P (store_falls number w).world
   falls number w all = along.falls_all P works crashes starts late number w all
 
@@ -111,8 +111,18 @@ module _ (P : ℕ → Hosted → Type 0)
       by_phase None = by_link (is_cut w c && is_cut_off c shape node move)
       by_phase (Some refusal) = all
 
-      reads : (luck : Luck) → All P (world.reads w c luck (unless_kept w (kept_out (is_resolving w c) move (client_step c shape node move).answer) linked)).world
-      reads messages.Done = by_phase (kept_out (is_resolving w c) move (client_step c shape node move).answer)
+      kept : WorldStep
+      kept = unless_kept w (kept_out (is_resolving w c) move (client_step c shape node move).answer) linked
+
+      answer : Answer
+      answer = closed_answer shape (is_cut w c) node.agenda move
+
+      if_closed : (closed : Bool) → All P (unless_closed w closed answer kept).world
+      if_closed true = all
+      if_closed false = by_phase (kept_out (is_resolving w c) move (client_step c shape node move).answer)
+
+      reads : (luck : Luck) → All P (world.reads w c luck (unless_closed w (is_closed node (table_of_move move)) answer kept)).world
+      reads messages.Done = if_closed (is_closed node (table_of_move move))
       reads messages.FailedBefore = fallen
       reads messages.FailedAfter = fallen
 
@@ -212,6 +222,28 @@ module _ (P : ℕ → Hosted → Type 0)
   delivered_all w shape lucks all None first = all
   delivered_all w shape lucks all (Some p) first = carried_all w p shape lucks all p.to first
 
+  -- ---- tables that are made and dropped
+
+  puts_all : (w : World) (number table : ℕ) (put : SidePut) (lucks : List Luck) → All P w → All P (puts_beside w number table put lucks).world
+  puts_all w number table put lucks all =
+      unless_down_all w (nodes.Store number) _ all
+      (hosted_all w table (store.Place put) lucks all (along.move_all P works crashes starts late w table (store.Place put) (λ hosted at p. places w table hosted put p) all)
+      (hosted_by w number table))
+
+  opens_all : (w : World) (c table : ℕ) (shape : Shape) (lucks : List Luck) → All P w → (o : Option Schema) → All P (opens w c table shape lucks o).world
+  opens_all w c table shape lucks all None = all
+  opens_all w c table shape lucks all (Some schema) = call_all w c (client.Alter table (client.Opens schema)) shape lucks all (client_at w c)
+
+  created_all : (w : World) (table : ℕ) (shape : Shape) (lucks : List Luck) → All P w → (node : Node) → All P (created w table shape lucks node).world
+  created_all w table shape lucks all (nodes.Store number) = puts_all w number table (store.PutState states.Live) lucks all
+  created_all w table shape lucks all (nodes.Client c) = opens_all w c table shape lucks all (schema_at w table)
+  created_all w table shape lucks all (nodes.Gate gate) = all
+
+  dropped_all : (w : World) (table : ℕ) (shape : Shape) (lucks : List Luck) → All P w → (node : Node) → All P (dropped w table shape lucks node).world
+  dropped_all w table shape lucks all (nodes.Store number) = puts_all w number table (store.PutState states.Dropped) lucks all
+  dropped_all w table shape lucks all (nodes.Client c) = call_all w c (client.Alter table client.Closes) shape lucks all (client_at w c)
+  dropped_all w table shape lucks all (nodes.Gate gate) = all
+
   -- ---- questions and declarations
 
   shows_all : (w : World) (table : ℕ) (row : List ℕ) (lucks : List Luck) → All P w → (o : Option Hosted) → All P (store_shows w table row lucks o).world
@@ -231,17 +263,21 @@ module _ (P : ℕ → Hosted → Type 0)
   chunks_all w table all None = all
   chunks_all w table all (Some hosted) = unless_down_all w (nodes.Store (owner_of w table)) _ all all
 
-  with_all : (w : World) (table : ℕ) (schema : Schema) (made : Bool) → All P w → P table (new_hosted made) → All P (with_table w table schema made)
-  with_all w table schema made all p q found at = ⊎_elim
-      (λ e. let both : Some (new_hosted made) ≡ Some found = sym e.1 ∙ at in let same : new_hosted made ≡ found = cc in
-      subst (P q) same (subst (λ (n : ℕ). P n (new_hosted made)) (sym e.0) p))
-      (λ e. all q found (sym e.1 ∙ at)) (look_cases w.tables table (new_hosted made) q)
+  with_all : (w : World) (table : ℕ) (schema : Schema) (state : TableState) (made : Bool) → All P w → P table (new_hosted state made) → All P (with_table w table schema state made)
+  with_all w table schema state made all p q found at = ⊎_elim
+      (λ e. let both : Some new ≡ Some found = sym e.1 ∙ at in let same : new ≡ found = cc in
+      subst (P q) same (subst (λ (n : ℕ). P n new) (sym e.0) p))
+      (λ e. all q found (sym e.1 ∙ at)) (look_cases w.tables table new q)
+    where
+      new : Hosted
+      new = new_hosted state made
 
-  declared_all : (w : World) (table : ℕ) (schema : Schema) (luck : Luck) → All P w → Fresh P w → (o : Option Hosted) → hosted_at w table ≡ o → All P (declared w table schema luck o)
-  declared_all w table schema luck all f (Some hosted) at = all
-  declared_all w table schema messages.Done all f None at = with_all w table schema true all (f table at true)
-  declared_all w table schema messages.FailedBefore all f None at = with_all w table schema false all (f table at false)
-  declared_all w table schema messages.FailedAfter all f None at = with_all w table schema false all (f table at false)
+  declared_all : (w : World) (table : ℕ) (schema : Schema) (state : TableState) (luck : Luck) → All P w → Fresh P w → (o : Option Hosted) → hosted_at w table ≡ o
+      → All P (declared w table schema state luck o)
+  declared_all w table schema state luck all f (Some hosted) at = all
+  declared_all w table schema state messages.Done all f None at = with_all w table schema state true all (f table at state true)
+  declared_all w table schema state messages.FailedBefore all f None at = with_all w table schema state false all (f table at state false)
+  declared_all w table schema state messages.FailedAfter all f None at = with_all w table schema state false all (f table at state false)
 
   joined_all : (w : World) (c : ℕ) (tables : List ℕ) (luck : Luck) → All P w → (o : Option Client) → All P (joined w c tables luck o)
   joined_all w c tables luck all None = all
@@ -295,11 +331,14 @@ module _ (P : ℕ → Hosted → Type 0)
   pub step_all : (w : World) (event : Event) (lucks : Lucks) → All P w → All P (taken_part w event) → Fresh P w → All P (step w event lucks).world
   step_all w (events.Store number) lucks all first f = all
   step_all w (events.Gate number) lucks all first f = all
-  step_all w (events.Table table schema) lucks all first f = declared_all w table schema (first_luck lucks.calls) all f (hosted_at w table) refl
+  step_all w (events.Table table schema) lucks all first f = declared_all w table schema states.Live (first_luck lucks.calls) all f (hosted_at w table) refl
+  step_all w (events.Draft table schema) lucks all first f = declared_all w table schema states.Draft (first_luck lucks.calls) all f (hosted_at w table) refl
   step_all w (events.Client c gate tables) lucks all first f = joined_all w c tables (first_luck lucks.calls) all (client_at w c)
   step_all w (events.Write c table row x) lucks all first f = call_all w c (client.Write table row x) lucks.shape lucks.calls all (client_at w c)
   step_all w (events.Edit c table row x) lucks all first f = call_all w c (client.Change table row x) lucks.shape lucks.calls all (client_at w c)
   step_all w (events.Link c up) lucks all first f = linked_all w c up all (client_at w c)
+  step_all w (events.Create node table) lucks all first f = created_all w table lucks.shape lucks.calls all node
+  step_all w (events.Drop node table) lucks all first f = dropped_all w table lucks.shape lucks.calls all node
   step_all w (events.Show c table row) lucks all first f = call_all w c (client.Show table row) lucks.shape lucks.calls all (client_at w c)
   step_all w (events.Sum c table row) lucks all first f = call_all w c (client.Sum table row) lucks.shape lucks.calls all (client_at w c)
   step_all w (events.Sync c table) lucks all first f = call_all w c (client.Sync table) lucks.shape lucks.calls all (client_at w c)

@@ -26,6 +26,7 @@ LandsBy d (store.Open item) some rest o = AreQuiet some × rest o
 LandsBy d (store.PutChunk name) some rest o = AreQuiet some × rest o
 LandsBy d (store.DropChunk name) some rest o = AreQuiet some × rest o
 LandsBy d store.Close some rest o = AreQuiet some × rest o
+LandsBy d (store.PutBeside put) some rest o = AreQuiet some × rest o
 
 -- these tasks land this item, or none
 abbrev pub Lands : StoreDisk → List StoreTask → Option Stored → Type 0

@@ -55,6 +55,8 @@ lies (suc k) d (task ∷ tasks) o l = go task.change l (λ p m. lies k (changed 
     go (store.PutChunk name) m on = on o m.1
     go (store.DropChunk name) m on = on o m.1
     go store.Close m on = on o m.1
+    go (store.PutBeside (store.PutState state)) m on = on o m.1
+    go (store.PutBeside (store.PutSub client terms)) m on = on o m.1
     go (store.Put item named old) m on = ⊎_elim (λ e. inr (item, m.0, e)) (λ e. absurd (let none = e.1 in cc)) (on None m.4)
 
 -- near the history that is told, where these tasks come next

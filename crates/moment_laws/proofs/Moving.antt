@@ -3,6 +3,7 @@ use Rattle.std.proofs.Common.{◌≡◌, inl, inr, ⊎_elim, ℕ, zero, suc, ◌
 use Rattle.std.specs.Prelude.{nat_lt, ◌==◌, ◌&&◌, if◌then◌else◌}
 use Rattle.stab_base.specs.declared.chunk_name.ChunkName.{ChunkName}
 use Rattle.table_model.specs.declared.entry.Entry.{Entry}
+use Rattle.table_model.specs.declared.table_state.TableState.TheVariants as states
 use Rattle.row_value.specs.declared.schema.Scheme.{Scheme}
 use Rattle.stab_base.specs.declared.node.Node.{Node}
 use Rattle.step_tables.specs.Chunks.{rising, new_names, old_names, is_spelled}
@@ -13,7 +14,7 @@ use Rattle.step_tables.specs.Messages as messages
 use Rattle.step_tables.specs.Sayings.{entered}
 use Rattle.step_tables.specs.Store.{Stored, current_of}
 use Rattle.step_tables.specs.StoreMoves as store
-use Rattle.step_tables.specs.StoreMoves.{StoreDisk, StoreChange, StoreTask, StoreStep, changed, only, ends_with, item_at}
+use Rattle.step_tables.specs.StoreMoves.{StoreDisk, SidePut, StoreChange, StoreTask, StoreStep, changed, only, ends_with, item_at}
 use Rattle.store_laws.specs.Part.{Counts}
 use Rattle.store_laws.proofs.Items.{counted_up, Counts-push, pushed_at, item_at-is}
 use Rattle.world_tables.specs.World.{history_on}
@@ -35,6 +36,17 @@ told_near near o h d e n = subst (Near near o) e n
 idle : (d : StoreDisk) (k : ℕ) → behind d None k ≡ d.items
 idle d zero = refl
 idle d (suc k) = refl
+
+-- what is put beside the rows touches no item, and tells none
+beside_items : (d : StoreDisk) (put : SidePut) → (store.put_beside d put).items ≡ d.items
+beside_items d (store.PutState state) = refl
+beside_items d (store.PutSub client terms) = refl
+
+beside_quiet : (table : ℕ) (put : SidePut) → AreQuiet (store.told_beside table put)
+beside_quiet table (store.PutState states.Draft) h = refl
+beside_quiet table (store.PutState states.Live) h = refl
+beside_quiet table (store.PutState states.Dropped) h = refl
+beside_quiet table (store.PutSub client terms) h = refl
 
 -- ---- a table at rest
 
@@ -75,6 +87,7 @@ module _ (h : List Entry) (d : StoreDisk) (made : Bool) (near : List Entry) (o :
         go (store.PutChunk name) is p m = quiet (store.PutChunk name) is refl m.0 p m.1
         go (store.DropChunk name) is p m = quiet (store.DropChunk name) is refl m.0 p m.1
         go store.Close is p m = quiet store.Close is refl m.0 p m.1
+        go (store.PutBeside put) is p m = quiet (store.PutBeside put) is (beside_items d put) m.0 p m.1
         go (store.Put item named old) is p m = record {
           counted = Counts-push 0 d.items item k.counted (grind (arith, m.2));
           at = (entries_join d.items item ∙ (ap (λ (es : List Entry). es ++ item.entry ∷ []) k.at.0 ∙ sym told), (None, m.4));
@@ -112,6 +125,7 @@ module _ (h : List Entry) (d : StoreDisk) (made : Bool) (near : List Entry) (o :
         go (store.PutChunk name) is p m = quiet (store.PutChunk name) is refl
         go (store.DropChunk name) is p m = quiet (store.DropChunk name) is refl
         go store.Close is p m = quiet store.Close is refl
+        go (store.PutBeside put) is p m = quiet (store.PutBeside put) is (beside_items d put)
         go (store.Put item named old) is p m = down_kept h (changed d (store.Put item named old)) made (Counts-push 0 d.items item k.counted (grind (arith, m.2)))
             (inr (record { before = d.items; item = item; items = refl; pending = m.1; counted = k.counted; next = m.2; told = k.at.0 }))
             (λ not_made. absurd (let none = (k.unmade not_made).2 in cc))
@@ -138,6 +152,27 @@ module _ (h : List Entry) (d : StoreDisk) (made : Bool) (near : List Entry) (o :
   worked_keeps None messages.Done k w = (k, w)
   worked_keeps (Some []) messages.Done k w = (k, w)
   worked_keeps (Some (task ∷ more)) messages.Done k w = let next = done_kept task more k in (next, done_within task more next w)
+
+  -- what is put beside the rows begins its one write
+  pub placed_keeps : (table : ℕ) (a : Option (List StoreTask)) (put : SidePut) → IsKept h d a made → IsWithin near o h d a → Keeps (store.placed table d a put)
+  placed_keeps table None put k w = (k, w)
+  placed_keeps table (Some (task ∷ more)) put k w = (k, w)
+  placed_keeps table (Some []) put k w = (
+    record {
+      counted = k.counted;
+      at = (k.at.0, (None, (beside_quiet table put, refl)));
+      unmade = λ not_made. absurd (let none = (k.unmade not_made).2 in cc);
+    },
+    record { told = w.told; items = λ j. subst (λ (items : List Stored). Near near o (entries_of items)) (sym (same j)) (w.items 0) },
+  )
+    where
+      none_left : (j : ℕ) → behind (store.put_beside d put) (Some []) j ≡ (store.put_beside d put).items
+      none_left zero = refl
+      none_left (suc j) = refl
+
+      same : (j : ℕ) → behind d (Some (store.beside_task table put ∷ [])) j ≡ d.items
+      same zero = refl
+      same (suc j) = none_left j ∙ beside_items d put
 
 -- ---- agendas
 

@@ -7,17 +7,19 @@ use Rattle.stab_base.specs.declared.node.Node.TheVariants as nodes
 use Rattle.table_model.specs.declared.entry.Entry.{Entry}
 use Rattle.table_model.specs.declared.event.Event.{Event}
 use Rattle.table_model.specs.declared.event.Event.TheVariants as events
+use Rattle.table_model.specs.declared.table_state.TableState.{TableState}
 use Rattle.step_tables.specs.Messages.{Luck, Message, table_of}
 use Rattle.step_tables.specs.Store.{Stored}
 use Rattle.step_tables.specs.StoreMoves as store
+use Rattle.step_tables.specs.StoreMoves.{SidePut}
 use Rattle.world_tables.specs.Turns.{Happening, world_from}
-use Rattle.world_tables.specs.World.{Lucks, World, Packet, Hosted, start, owner_of, schema_at, scheme_in, chunk_in, hosted_at, table_step, move_table, declared_late, step}
+use Rattle.world_tables.specs.World.{Lucks, World, Packet, Hosted, start, owner_of, schema_at, scheme_in, chunk_in, hosted_at, table_step, move_table, declared_late, new_hosted, step}
 use Rattle.world_tables.specs.Passed.{items_behind, entries_of, IsBetween, taken_by, taken_from, taken_part, first_part}
 use Rattle.moment_laws.proofs.Kept.{IsKeptTable, Near, IsWithinTable}
 use Rattle.moment_laws.proofs.Landing.{near_here}
-use Rattle.moment_laws.proofs.Moving.{Takes, worked_keeps, crashed_keeps, started_keeps, taken}
+use Rattle.moment_laws.proofs.Moving.{Takes, worked_keeps, placed_keeps, crashed_keeps, started_keeps, taken}
 use Rattle.moment_laws.proofs.Along.{behind_step, All, move_all}
-use Rattle.moment_laws.proofs.Events.{new_hosted, Fresh, step_all, first_all}
+use Rattle.moment_laws.proofs.Events.{Fresh, step_all, first_all}
 
 -- ---- every table keeps what it keeps
 
@@ -35,15 +37,18 @@ kept_starts w table x made k =
     let n = near_here x.history x.store.disk x.store.agenda k.at in
     (started_keeps (owner_of w table) table x.history x.store.disk x.made x.history n.0 made x.store.agenda k n.1).0
 
-kept_late : (w : World) (table : ℕ) (x : Hosted) → x.made ≡ false → KeptAt table x → KeptAt table (behind_step (record x { made = true }) (declared_late (owner_of w table) table))
+kept_late : (w : World) (table : ℕ) (x : Hosted) → x.made ≡ false → KeptAt table x → KeptAt table (behind_step (record x { made = true }) (declared_late (owner_of w table) table x.store.disk.state))
 kept_late w table x made k = record { counted = tt; at = (sym (k.unmade made).0, (None, refl)); unmade = λ not_made. absurd (true≢false not_made) }
 
-kept_new : (made : Bool) → IsKeptTable (new_hosted made)
-kept_new true = record { counted = tt; at = (refl, (None, refl)); unmade = λ not_made. absurd (true≢false not_made) }
-kept_new false = record { counted = tt; at = inl refl; unmade = λ not_made. (refl, refl, refl) }
+kept_places : (w : World) (table : ℕ) (x : Hosted) (put : SidePut) → KeptAt table x → KeptAt table (behind_step x (table_step w table x (store.Place put)))
+kept_places w table x put k = let n = near_here x.history x.store.disk x.store.agenda k.at in (placed_keeps x.history x.store.disk x.made x.history n.0 table x.store.agenda put k n.1).0
+
+kept_new : (state : TableState) (made : Bool) → IsKeptTable (new_hosted state made)
+kept_new state true = record { counted = tt; at = (refl, (None, refl)); unmade = λ not_made. absurd (true≢false not_made) }
+kept_new state false = record { counted = tt; at = inl refl; unmade = λ not_made. (refl, refl, refl) }
 
 kept_fresh : (w : World) → Fresh KeptAt w
-kept_fresh w table none made = kept_new made
+kept_fresh w table none state made = kept_new state made
 
 takes : (w : World) (table : ℕ) (from : Node) (m : Message) (x : Hosted) → IsKeptTable x
     → Takes x.history x.store.disk x.store.agenda x.made (table_step w table x (store.Take from m))
@@ -68,7 +73,7 @@ kept_taken w (events.Deliver n) all = kept_taken_from w (slice_get w.packets n) 
 kept_taken w other all = all
 
 kept_step : (w : World) (event : Event) (lucks : Lucks) → All KeptAt w → All KeptAt (step w event lucks).world
-kept_step w event lucks all = step_all KeptAt kept_works kept_crashes kept_starts kept_late w event lucks all (kept_taken w event all) (kept_fresh w)
+kept_step w event lucks all = step_all KeptAt kept_works kept_crashes kept_starts kept_late kept_places w event lucks all (kept_taken w event all) (kept_fresh w)
 
 kept_from : (run : List Happening) (w : World) → All KeptAt w → All KeptAt (world_from w run)
 kept_from [] w all = all
@@ -92,12 +97,15 @@ module _ (q : ℕ) (near : List Entry) (o : Option Stored) where
   near_starts : (w : World) (table : ℕ) (x : Hosted) → x.made ≡ true → NearAt table x → NearAt table (behind_step x (table_step w table x store.Start))
   near_starts w table x made k = (kept_starts w table x made k.0, λ is. (started_keeps (owner_of w table) table x.history x.store.disk x.made near o made x.store.agenda k.0 (k.1 is)).1)
 
-  near_late : (w : World) (table : ℕ) (x : Hosted) → x.made ≡ false → NearAt table x → NearAt table (behind_step (record x { made = true }) (declared_late (owner_of w table) table))
+  near_late : (w : World) (table : ℕ) (x : Hosted) → x.made ≡ false → NearAt table x → NearAt table (behind_step (record x { made = true }) (declared_late (owner_of w table) table x.store.disk.state))
   near_late w table x made k = (kept_late w table x made k.0, λ is. record { told = (k.1 is).told; items = λ j. none j ((k.1 is).items 0) })
     where
-      none : (j : ℕ) → Near near o (entries_of x.store.disk.items) → Near near o (entries_of (items_behind (behind_step (record x { made = true }) (declared_late (owner_of w table) table)) j))
+      none : (j : ℕ) → Near near o (entries_of x.store.disk.items) → Near near o (entries_of (items_behind (behind_step (record x { made = true }) (declared_late (owner_of w table) table x.store.disk.state)) j))
       none zero n = subst (λ (items : List Stored). Near near o (entries_of items)) (k.0.unmade made).1 n
       none (suc j) n = subst (λ (items : List Stored). Near near o (entries_of items)) (k.0.unmade made).1 n
+
+  near_places : (w : World) (table : ℕ) (x : Hosted) (put : SidePut) → NearAt table x → NearAt table (behind_step x (table_step w table x (store.Place put)))
+  near_places w table x put k = (kept_places w table x put k.0, λ is. (placed_keeps x.history x.store.disk x.made near o table x.store.agenda put k.0 (k.1 is)).1)
 
   near_all : (w : World) (x : Hosted) → hosted_at w q ≡ Some x → All KeptAt w → IsWithinTable near o x → All NearAt w
   near_all w x there all within table y at = (
@@ -108,7 +116,7 @@ module _ (q : ℕ) (near : List Entry) (o : Option Stored) where
 
   -- no table is declared again
   near_fresh : (w : World) (x : Hosted) → hosted_at w q ≡ Some x → Fresh NearAt w
-  near_fresh w x there table none = λ made. (kept_fresh w table none made, λ is. absurd (apart is))
+  near_fresh w x there table none = λ state made. (kept_fresh w table none state made, λ is. absurd (apart is))
     where
       apart : table ≡ q → ⊥
       apart is = let both : None ≡ Some x = sym none ∙ (ap (hosted_at w) is ∙ there) in cc
@@ -201,7 +209,7 @@ module _ (q : ℕ) (w : World) (x : Hosted) (there : hosted_at w q ≡ Some x) (
   module _ (event : Event) (lucks : Lucks) (after : Hosted) (is_after : hosted_at (step w event lucks).world q ≡ Some after) where
     told_near : (l : IsLanding q w event x) → Near x.history l.item after.history
     told_near l = ((step_all (NearAt q x.history l.item) (near_works q x.history l.item) (near_crashes q x.history l.item) (near_starts q x.history l.item) (near_late q x.history l.item)
-        w event lucks l.before l.behind (near_fresh q x.history l.item w x there) q after is_after).1 refl).told
+        (near_places q x.history l.item) w event lucks l.before l.behind (near_fresh q x.history l.item w x there) q after is_after).1 refl).told
 
     stays_before : (k : ℕ) → IsBetween x.history after.history (items_behind x k)
     stays_before k = let l = landing event in between_of l.item after.history (items_behind x k) (told_near l) (((l.before q x there).1 refl).items k)
@@ -210,7 +218,7 @@ module _ (q : ℕ) (w : World) (x : Hosted) (there : hosted_at w q ≡ Some x) (
     stays_between middle at k =
         let l = landing event in
         let first = first_all (NearAt q x.history l.item) (near_works q x.history l.item) (near_crashes q x.history l.item) (near_starts q x.history l.item) (near_late q x.history l.item)
-        w event lucks l.before l.behind in
+        (near_places q x.history l.item) w event lucks l.before l.behind in
         between_of l.item after.history (items_behind middle k) (told_near l) (((first q middle at).1 refl).items k)
 
 pub rows_stay_before : (run : List Happening) (event : Event) (lucks : Lucks) (table k : ℕ) (before after : Hosted) → hosted_at (world_from start run) table ≡ Some before

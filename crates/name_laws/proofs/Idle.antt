@@ -1,4 +1,4 @@
--- When no table of a Store has writes to do.
+-- When no table of a Store has writes to do, but such that put something beside its rows.
 use Rattle.std.proofs.Common.{◌≡◌, ◌≢◌, ◌⊎◌, inl, inr, ⊎_elim, ℕ, zero, suc, ◌<◌, ◌≤◌, Bool, true, false, List, [], ◌∷◌, length, Option, Some, None, refl, sym, ◌∙◌, ap, subst, arith, true≢false}
 use Rattle.std.proofs.Common.{length-append}
 use Rattle.std.specs.Prelude.{◌==◌, ◌||◌, drop, filter, if◌then◌else◌}
@@ -9,7 +9,7 @@ use Rattle.step_tables.specs.Members.{Among}
 use Rattle.step_tables.specs.Messages.{Message, Luck}
 use Rattle.step_tables.specs.Messages as messages
 use Rattle.step_tables.specs.StoreMoves as store
-use Rattle.step_tables.specs.StoreMoves.{StoreDisk, StoreTask, StoreMove}
+use Rattle.step_tables.specs.StoreMoves.{StoreDisk, StoreTask, StoreChange, StoreMove, SidePut}
 use Rattle.step_tables.proofs.Lists.{among_none, among_cons, among_here, among_next, among_found, find_some}
 use Rattle.world_tables.specs.World.{World, Hosted, Moved, owner_of, has_store, tables_of, hosted_at, hosted_tasks, tasks_in, has_node, still, and_then, and_unless, is_fault}
 use Rattle.world_tables.specs.World.{history_on, table_step, move_hosted, move_table, first_luck, other_lucks}
@@ -18,12 +18,54 @@ use Rattle.world_tables.specs.World.{tables_start, store_starts, schema_at, sche
 use Rattle.world_laws.proofs.Looks.{look_cases}
 use Rattle.world_laws.proofs.Owners.{IsBeside, owners_stay, lookup_among, among_tables, table_owned}
 use Rattle.name_laws.proofs.Keys.{keys_stay}
-use Rattle.name_laws.proofs.Plain.{IsPlace}
+use Rattle.name_laws.proofs.Left.{Clears}
+use Rattle.name_laws.proofs.Plain.{IsFrom}
 use Rattle.name_laws.proofs.Moves.{IsFine, Went, stores_went, owners_went, table_went, downs_went, begins_went}
 
--- no table of this Store has
+-- no chunk and no row is changed
+abbrev IsBesideRows : StoreChange → Type 0
+IsBesideRows (store.PutBeside put) = Unit {0}
+IsBesideRows other = ⊥
+
+abbrev pub AreBesideRows : List StoreTask → Type 0
+AreBesideRows [] = Unit {0}
+AreBesideRows (task ∷ more) = IsBesideRows task.change × AreBesideRows more
+
+none_beside : (tasks : List StoreTask) → tasks ≡ [] → AreBesideRows tasks
+none_beside tasks none = subst AreBesideRows (sym none) tt
+
+-- no table of this Store has other writes to do
 abbrev pub Idle : World → ℕ → Type 0
-Idle w number = (table : ℕ) (hosted : Hosted) → owner_of w table ≡ number → hosted_at w table ≡ Some hosted → tasks_in hosted.store.agenda ≡ []
+Idle w number = (table : ℕ) (hosted : Hosted) → owner_of w table ≡ number → hosted_at w table ≡ Some hosted → AreBesideRows (tasks_in hosted.store.agenda)
+
+-- none has any
+abbrev Rests : World → ℕ → Type 0
+Rests w number = (table : ℕ) (hosted : Hosted) → owner_of w table ≡ number → hosted_at w table ≡ Some hosted → tasks_in hosted.store.agenda ≡ []
+
+rests_idle : (w : World) (number : ℕ) → Rests w number → Idle w number
+rests_idle w number rests q hosted own at = none_beside (tasks_in hosted.store.agenda) (rests q hosted own at)
+
+-- ---- behind such writes nothing is left over that wasn't, and the names are those that were
+
+put_left : (d : StoreDisk) (put : SidePut) → (store.put_beside d put).left ≡ d.left
+put_left d (store.PutState state) = refl
+put_left d (store.PutSub client terms) = refl
+
+beside_left : (d : StoreDisk) (change : StoreChange) → IsBesideRows change → (store.changed d change).left ≡ d.left
+beside_left d (store.PutBeside put) is = put_left d put
+beside_left d store.OpenChunks is = absurd is
+beside_left d store.OpenRows is = absurd is
+beside_left d store.OpenLog is = absurd is
+beside_left d (store.Open item) is = absurd is
+beside_left d (store.PutChunk name) is = absurd is
+beside_left d (store.Put item named old) is = absurd is
+beside_left d (store.DropChunk name) is = absurd is
+beside_left d store.Close is = absurd is
+
+pub clear_now : (tasks : List StoreTask) (d : StoreDisk) → AreBesideRows tasks → Clears d tasks → d.left ≡ []
+clear_now [] d beside clears = clears
+clear_now (task ∷ more) d beside clears =
+    sym (beside_left d task.change beside.0) ∙ clear_now more (store.changed d task.change) beside.1 clears.1
 
 -- what another Store does leaves it so
 pub other_idle : (number other : ℕ) (w v : World) → IsBeside number w v → other ≢ number → Idle w other → Idle v other
@@ -33,12 +75,12 @@ other_idle number other w v b apart idle q hosted own at =
 
 -- ---- a table that falls has none
 
-crashed_idle : (d : StoreDisk) (agenda : Option (List StoreTask)) (luck : Luck) → tasks_in (store.crashed d agenda luck).store.agenda ≡ []
-crashed_idle d None luck = refl
-crashed_idle d (Some []) luck = refl
-crashed_idle d (Some (task ∷ more)) messages.Done = refl
-crashed_idle d (Some (task ∷ more)) messages.FailedBefore = refl
-crashed_idle d (Some (task ∷ more)) messages.FailedAfter = refl
+crashed_none : (d : StoreDisk) (agenda : Option (List StoreTask)) (luck : Luck) → tasks_in (store.crashed d agenda luck).store.agenda ≡ []
+crashed_none d None luck = refl
+crashed_none d (Some []) luck = refl
+crashed_none d (Some (task ∷ more)) messages.Done = refl
+crashed_none d (Some (task ∷ more)) messages.FailedBefore = refl
+crashed_none d (Some (task ∷ more)) messages.FailedAfter = refl
 
 module _ (number : ℕ) where
   -- each of its tables has none, or is still to fall
@@ -53,7 +95,7 @@ module _ (number : ℕ) where
           (λ b. ⊎_elim (λ e. absurd (let both : Some hosted ≡ None = sym at ∙ (ap (hosted_at w) (sym e) ∙ none) in cc)) (λ more. inr more) (among_cons table tables q b)) (a q hosted own at)
       go (Some here) is q hosted own at = ⊎_elim
           (λ e. let both : Some new ≡ Some hosted = sym e.1 ∙ at in let same : new ≡ hosted = cc in
-          inl (subst (λ (y : Hosted). tasks_in y.store.agenda ≡ []) same (crashed_idle here.store.disk here.store.agenda messages.FailedBefore)))
+          inl (subst (λ (y : Hosted). tasks_in y.store.agenda ≡ []) same (crashed_none here.store.disk here.store.agenda messages.FailedBefore)))
           (λ e. ⊎_elim (λ idle. inl idle) (λ b. ⊎_elim (λ same. absurd (e.0 (sym same))) (λ more. inr more) (among_cons table tables q b)) (a q hosted own (sym e.1 ∙ at)))
           (look_cases w.tables table new q)
         where
@@ -62,12 +104,15 @@ module _ (number : ℕ) where
               let s = table_step w table here (store.Crash messages.FailedBefore) in
               record { store = s.store; history = history_on here.history s.facts; made = here.made }
 
-  falls_idle : (tables : List ℕ) (w : World) → Awaits w tables → Idle (tables_fall tables w).world number
-  falls_idle [] w a = λ q hosted own at. ⊎_elim (λ idle. idle) (λ b. absurd (among_none q b)) (a q hosted own at)
-  falls_idle (table ∷ tables) w a = falls_idle tables (table_falls table w).world (fall_awaits w table tables a)
+  falls_rest : (tables : List ℕ) (w : World) → Awaits w tables → Rests (tables_fall tables w).world number
+  falls_rest [] w a = λ q hosted own at. ⊎_elim (λ idle. idle) (λ b. absurd (among_none q b)) (a q hosted own at)
+  falls_rest (table ∷ tables) w a = falls_rest tables (table_falls table w).world (fall_awaits w table tables a)
+
+  fallen_rests : (w : World) → has_store w number ≡ true → Rests (store_falls number w).world number
+  fallen_rests w has = falls_rest (tables_of w number) w (λ q hosted own at. inr (among_tables w number q hosted has own at))
 
   pub fallen_idle : (w : World) → has_store w number ≡ true → Idle (store_falls number w).world number
-  fallen_idle w has = falls_idle (tables_of w number) w (λ q hosted own at. inr (among_tables w number q hosted has own at))
+  fallen_idle w has = rests_idle (store_falls number w).world number (fallen_rests w has)
 
 -- ---- tables at work
 
@@ -106,7 +151,7 @@ none_in f (k ∷ keys) q le a =
     empty [] l = refl
     empty (x ∷ xs) l = absurd (omega arith)
 
-none_left : (w : World) (number : ℕ) → has_store w number ≡ true → length (tasks_of w number) ≤ 0 → Idle w number
+none_left : (w : World) (number : ℕ) → has_store w number ≡ true → length (tasks_of w number) ≤ 0 → Rests w number
 none_left w number has le = λ q hosted own at.
     subst (λ (o : Option Hosted). hosted_tasks o ≡ []) at
     (none_in (λ table. hosted_tasks (hosted_at w table)) (tables_of w number) q le (among_tables w number q hosted has own at))
@@ -181,14 +226,14 @@ module _ (number : ℕ) where
 
   -- ---- work until idle
 
-  unless_idle : (m : Moved) (f : World → Moved) → (m.failed ≡ true → Idle m.world number) → (m.failed ≡ false → Idle (f m.world).world number) → Idle (and_unless m f).world number
-  unless_idle m f a b = go m.failed refl
+  unless_rests : (m : Moved) (f : World → Moved) → (m.failed ≡ true → Rests m.world number) → (m.failed ≡ false → Rests (f m.world).world number) → Rests (and_unless m f).world number
+  unless_rests m f a b = go m.failed refl
     where
-      go : (c : Bool) → m.failed ≡ c → Idle (if c then m else and_then m f).world number
+      go : (c : Bool) → m.failed ≡ c → Rests (if c then m else and_then m f).world number
       go true is = a is
       go false is = b is
 
-  no_busy : (w : World) → has_store w number ≡ true → busy_table w number ≡ None → Idle w number
+  no_busy : (w : World) → has_store w number ≡ true → busy_table w number ≡ None → Rests w number
   no_busy w has none q hosted own at = subst (λ (o : Option Hosted). hosted_tasks o ≡ []) at (at_rest w q (rests (is_at_work w q) refl))
     where
       rests : (b : Bool) → is_at_work w q ≡ b → is_at_work w q ≡ false
@@ -205,13 +250,13 @@ module _ (number : ℕ) where
       let rest = no_tasks f keys (λ q there. none q (among_next k keys q there)) in
       omega arith
 
-  -- a table of an idle Store
-  idle_tasks : (w : World) → Idle w number → (q : ℕ) → Among (tables_of w number) q → hosted_tasks (hosted_at w q) ≡ []
-  idle_tasks w idle q a = let t = table_owned w number q a in subst (λ (o : Option Hosted). hosted_tasks o ≡ []) (sym t.there) (idle q t.hosted t.owned t.there)
+  -- a table of a Store that rests
+  rest_tasks : (w : World) → Rests w number → (q : ℕ) → Among (tables_of w number) q → hosted_tasks (hosted_at w q) ≡ []
+  rest_tasks w rests q a = let t = table_owned w number q a in subst (λ (o : Option Hosted). hosted_tasks o ≡ []) (sym t.there) (rests q t.hosted t.owned t.there)
 
-  works_idle : (count : ℕ) (lucks : List Luck) (w : World) → IsFine w → has_store w number ≡ true → length (tasks_of w number) ≤ count → Idle (store_works number count lucks w).world number
-  works_idle zero lucks w f has le = none_left w number has le
-  works_idle (suc more) lucks w f has le = go (busy_table w number) refl (λ x fine there few. works_idle more (other_lucks lucks) x fine there few)
+  works_rest : (count : ℕ) (lucks : List Luck) (w : World) → IsFine w → has_store w number ≡ true → length (tasks_of w number) ≤ count → Rests (store_works number count lucks w).world number
+  works_rest zero lucks w f has le = none_left w number has le
+  works_rest (suc more) lucks w f has le = go (busy_table w number) refl (λ x fine there few. works_rest more (other_lucks lucks) x fine there few)
     where
       luck : Luck
       luck = first_luck lucks
@@ -219,10 +264,10 @@ module _ (number : ℕ) where
       next : World → Moved
       next = store_works number more (other_lucks lucks)
 
-      go : (o : Option ℕ) → busy_table w number ≡ o → ((x : World) → IsFine x → has_store x number ≡ true → length (tasks_of x number) ≤ more → Idle (next x).world number)
-          → Idle (and_unless (write_next number luck o w) next).world number
+      go : (o : Option ℕ) → busy_table w number ≡ o → ((x : World) → IsFine x → has_store x number ≡ true → length (tasks_of x number) ≤ more → Rests (next x).world number)
+          → Rests (and_unless (write_next number luck o w) next).world number
       go None is rest =
-          rest w f has (let none = no_tasks (λ table. hosted_tasks (hosted_at w table)) (tables_of w number) (idle_tasks w (no_busy w has is)) in omega arith)
+          rest w f has (let none = no_tasks (λ table. hosted_tasks (hosted_at w table)) (tables_of w number) (rest_tasks w (no_busy w has is)) in omega arith)
       go (Some table) is rest = split m.failed refl
         where
           m : Moved
@@ -237,36 +282,31 @@ module _ (number : ℕ) where
           has_too : has_store m.world number ≡ true
           has_too = stores_went w m went number ∙ has
 
-          split : (b : Bool) → m.failed ≡ b → Idle (and_unless (if b then and_then m (store_falls number) else m) next).world number
-          split true failed = unless_idle (and_then m (store_falls number)) next (λ e. fallen_idle number m.world has_too)
+          split : (b : Bool) → m.failed ≡ b → Rests (and_unless (if b then and_then m (store_falls number) else m) next).world number
+          split true failed = unless_rests (and_then m (store_falls number)) next (λ e. fallen_rests number m.world has_too)
               (λ e. absurd (true≢false (sym (ap (λ (c : Bool). c || (store_falls number m.world).failed) failed) ∙ e)))
-          split false fine = unless_idle m next (λ e. absurd (true≢false (sym e ∙ fine)))
+          split false fine = unless_rests m next (λ e. absurd (true≢false (sym e ∙ fine)))
               (λ e. rest m.world went.fine has_too (let less = work_less w table luck f found.0 (at_work w table found.1) fine in omega arith))
 
   pub until_idle : (lucks : List Luck) (w : World) → IsFine w → has_store w number ≡ true → Idle (store_until_idle number lucks w).world number
-  until_idle lucks w f has = works_idle (length (tasks_of w number)) lucks w f has (omega arith)
+  until_idle lucks w f has =
+      rests_idle (store_until_idle number lucks w).world number (works_rest (length (tasks_of w number)) lucks w f has (omega arith))
 
-  pub follows_idle : (lucks : List Luck) (w : World) → IsFine w → has_store w number ≡ true → has_node w.holds (nodes.Store number) ≡ false → Idle (store_follows number lucks w).world number
-  follows_idle lucks w f has free = go (has_node w.holds (nodes.Store number)) free
+  -- where the Store isn't on hold, or is idle
+  pub follows_idle : (lucks : List Luck) (w : World) → IsFine w → has_store w number ≡ true → (has_node w.holds (nodes.Store number) ≡ true → Idle w number)
+      → Idle (store_follows number lucks w).world number
+  follows_idle lucks w f has held = go (has_node w.holds (nodes.Store number)) refl
     where
-      go : (b : Bool) → b ≡ false → Idle (if b then still w else store_until_idle number lucks w).world number
-      go true is = absurd (true≢false is)
+      go : (b : Bool) → has_node w.holds (nodes.Store number) ≡ b → Idle (if b then still w else store_until_idle number lucks w).world number
+      go true is = held is
       go false is = until_idle lucks w f has
 
-  -- an idle Store has nothing to write
-  pub busy_none : (w : World) → Idle w number → busy_table w number ≡ None
-  busy_none w idle = go (busy_table w number) refl
-    where
-      go : (o : Option ℕ) → busy_table w number ≡ o → o ≡ None
-      go None is = refl
-      go (Some table) is = let found = among_found (is_at_work w) (tables_of w number) table is in absurd (true≢false (sym found.1 ∙ no_work w table (idle_tasks w idle table found.0)))
+-- ---- a move of a table
 
--- ---- a message to a table
-
-moved_idle : (w : World) (table number : ℕ) (hosted : Hosted) (move : StoreMove) → Idle w number → tasks_in (table_step w table hosted move).store.agenda ≡ []
+moved_idle : (w : World) (table number : ℕ) (hosted : Hosted) (move : StoreMove) → Idle w number → AreBesideRows (tasks_in (table_step w table hosted move).store.agenda)
     → Idle (move_hosted w table move (Some hosted)).world number
-moved_idle w table number hosted move idle none q found own at = ⊎_elim
-    (λ e. let both : Some new ≡ Some found = sym e.1 ∙ at in let same : new ≡ found = cc in subst (λ (y : Hosted). tasks_in y.store.agenda ≡ []) same none)
+moved_idle w table number hosted move idle beside q found own at = ⊎_elim
+    (λ e. let both : Some new ≡ Some found = sym e.1 ∙ at in let same : new ≡ found = cc in subst (λ (y : Hosted). AreBesideRows (tasks_in y.store.agenda)) same beside)
     (λ e. idle q found own (sym e.1 ∙ at)) (look_cases w.tables table new q)
   where
     new : Hosted
@@ -274,39 +314,94 @@ moved_idle w table number hosted move idle none q found own at = ⊎_elim
         let s = table_step w table hosted move in
         record { store = s.store; history = history_on hosted.history s.facts; made = hosted.made }
 
-pub table_follows_idle : (w : World) (table : ℕ) (from : Node) (m : Message) (lucks : List Luck) → IsFine w → IsPlace from → has_store w (owner_of w table) ≡ true
-    → Idle w (owner_of w table) → has_node w.holds (nodes.Store (owner_of w table)) ≡ false
-    → Idle (table_follows table lucks (move_table table (store.Take from m) w).world).world (owner_of w table)
-table_follows_idle w table from m lucks f place has idle free = go (is_at_work x table) refl
+-- where it begins work, the Store isn't on hold or is idle then too
+pub table_follows_idle : (w : World) (table : ℕ) (move : StoreMove) (lucks : List Luck) → IsFine w → IsFrom move → has_store w (owner_of w table) ≡ true
+    → Idle w (owner_of w table) → (has_node w.holds (nodes.Store (owner_of w table)) ≡ true → Idle (move_table table move w).world (owner_of w table))
+    → Idle (table_follows table lucks (move_table table move w).world).world (owner_of w table)
+table_follows_idle w table move lucks f from has idle held = go (is_at_work x table) refl
   where
     number : ℕ
     number = owner_of w table
 
     x : World
-    x = (move_table table (store.Take from m) w).world
+    x = (move_table table move w).world
 
-    went : Went w (move_table table (store.Take from m) w)
-    went = table_went w table (store.Take from m) place f
+    went : Went w (move_table table move w)
+    went = table_went w table move from f
 
     own : owner_of x table ≡ number
-    own = owners_went w (move_table table (store.Take from m) w) went table
+    own = owners_went w (move_table table move w) went table
 
-    rests : (o : Option Hosted) → hosted_at w table ≡ o → hosted_tasks (hosted_at (move_hosted w table (store.Take from m) o).world table) ≡ []
-        → Idle (move_hosted w table (store.Take from m) o).world number
+    rests : (o : Option Hosted) → hosted_at w table ≡ o → hosted_tasks (hosted_at (move_hosted w table move o).world table) ≡ []
+        → Idle (move_hosted w table move o).world number
     rests None at none = idle
-    rests (Some hosted) at none = moved_idle w table number hosted (store.Take from m) idle (⊎_elim (λ e. sym (ap hosted_tasks e.1) ∙ none) (λ e. absurd (e.0 refl))
-        (look_cases w.tables table (let s = table_step w table hosted (store.Take from m) in record { store = s.store; history = history_on hosted.history s.facts; made = hosted.made }) table))
+    rests (Some hosted) at none = moved_idle w table number hosted move idle
+        (none_beside (tasks_in (table_step w table hosted move).store.agenda) (⊎_elim (λ e. sym (ap hosted_tasks e.1) ∙ none) (λ e. absurd (e.0 refl))
+        (look_cases w.tables table (let s = table_step w table hosted move in record { store = s.store; history = history_on hosted.history s.facts; made = hosted.made }) table)))
 
     go : (b : Bool) → is_at_work x table ≡ b → Idle (if b then store_follows (owner_of x table) lucks x else still x).world number
     go true is = subst (λ (n : ℕ). Idle (store_follows n lucks x).world number) (sym own)
-        (follows_idle number lucks x went.fine (stores_went w (move_table table (store.Take from m) w) went number ∙ has) (ap (λ (hs : List Node). has_node hs (nodes.Store number)) went.holds ∙ free))
+        (follows_idle number lucks x went.fine (stores_went w (move_table table move w) went number ∙ has)
+        (λ on. held (sym (ap (λ (hs : List Node). has_node hs (nodes.Store number)) went.holds) ∙ on)))
     go false is = rests (hosted_at w table) refl (at_rest x table is)
 
--- a table that is down stays so
-pub down_idle : (w : World) (table number : ℕ) (hosted : Hosted) (from : Node) (m : Message) → Idle w number → hosted.store.agenda ≡ None
-    → Idle (move_hosted w table (store.Take from m) (Some hosted)).world number
-down_idle w table number hosted from m idle down = moved_idle w table number hosted (store.Take from m) idle
-    (subst (λ (o : Option (List StoreTask)). tasks_in (store.taken (scheme_in (schema_at w table)) (chunk_in (schema_at w table)) table hosted.store.disk o from m).store.agenda ≡ []) (sym down) refl)
+-- a table that isn't free for a message stays as it is
+pub kept_idle : (w : World) (table number : ℕ) (hosted : Hosted) (from : Node) (m : Message) → Idle w number → owner_of w table ≡ number → hosted_at w table ≡ Some hosted
+    → hosted.store.agenda ≢ Some [] → Idle (move_hosted w table (store.Take from m) (Some hosted)).world number
+kept_idle w table number hosted from m idle own at busy = moved_idle w table number hosted (store.Take from m) idle (go hosted.store.agenda busy (idle table hosted own at))
+  where
+    go : (o : Option (List StoreTask)) → o ≢ Some [] → AreBesideRows (tasks_in o)
+        → AreBesideRows (tasks_in (store.taken (scheme_in (schema_at w table)) (chunk_in (schema_at w table)) table hosted.store.disk o from m).store.agenda)
+    go None is beside = beside
+    go (Some []) is beside = absurd (is refl)
+    go (Some (task ∷ more)) is beside = beside
+
+-- what is put beside the rows leaves the Store idle
+placed_beside : (table : ℕ) (d : StoreDisk) (agenda : Option (List StoreTask)) (put : SidePut) → AreBesideRows (tasks_in agenda)
+    → AreBesideRows (tasks_in (store.placed table d agenda put).store.agenda)
+placed_beside table d None put beside = beside
+placed_beside table d (Some []) put beside = (tt, tt)
+placed_beside table d (Some (task ∷ more)) put beside = beside
+
+pub placed_idle : (w : World) (table number : ℕ) (put : SidePut) → Idle w number → owner_of w table ≡ number → Idle (move_table table (store.Place put) w).world number
+placed_idle w table number put idle own = go (hosted_at w table) refl
+  where
+    go : (o : Option Hosted) → hosted_at w table ≡ o → Idle (move_hosted w table (store.Place put) o).world number
+    go None at = idle
+    go (Some hosted) at = moved_idle w table number hosted (store.Place put) idle (placed_beside table hosted.store.disk hosted.store.agenda put (idle table hosted own at))
+
+-- a Store's next write leaves it idle
+worked_beside : (d : StoreDisk) (agenda : Option (List StoreTask)) (luck : Luck) → AreBesideRows (tasks_in agenda) → AreBesideRows (tasks_in (store.worked d agenda luck).store.agenda)
+worked_beside d None messages.Done beside = tt
+worked_beside d None messages.FailedBefore beside = tt
+worked_beside d None messages.FailedAfter beside = tt
+worked_beside d (Some []) messages.Done beside = tt
+worked_beside d (Some []) messages.FailedBefore beside = tt
+worked_beside d (Some []) messages.FailedAfter beside = tt
+worked_beside d (Some (task ∷ more)) messages.Done beside = beside.1
+worked_beside d (Some (task ∷ more)) messages.FailedBefore beside = tt
+worked_beside d (Some (task ∷ more)) messages.FailedAfter beside = tt
+
+pub write_idle : (number : ℕ) (luck : Luck) (w : World) → IsFine w → has_store w number ≡ true → Idle w number → Idle (write_next number luck (busy_table w number) w).world number
+write_idle number luck w f has idle = go (busy_table w number) refl
+  where
+    go : (o : Option ℕ) → busy_table w number ≡ o → Idle (write_next number luck o w).world number
+    go None is = idle
+    go (Some table) is = split m.failed
+      where
+        m : Moved
+        m = move_table table (store.Work luck) w
+
+        own : owner_of w table ≡ number
+        own = (table_owned w number table (among_found (is_at_work w) (tables_of w number) table is).0).owned
+
+        moved : (o : Option Hosted) → hosted_at w table ≡ o → Idle (move_hosted w table (store.Work luck) o).world number
+        moved None at = idle
+        moved (Some hosted) at = moved_idle w table number hosted (store.Work luck) idle (worked_beside hosted.store.disk hosted.store.agenda luck (idle table hosted own at))
+
+        split : (b : Bool) → Idle (if b then and_then m (store_falls number) else m).world number
+        split true = fallen_idle number m.world (stores_went w m (table_went w table (store.Work luck) tt f) number ∙ has)
+        split false = moved (hosted_at w table) refl
 
 -- ---- a start
 
@@ -330,4 +425,4 @@ starts_idle number lucks w f has free = go m.failed
     go false =
         let x : World = without_down (nodes.Store number) m.world in
         follows_idle number (drop (length tables) lucks) x (downs_went m.world x.downs went.fine).fine has_too
-        (ap (λ (hs : List Node). has_node hs (nodes.Store number)) went.holds ∙ free)
+        (λ on. absurd (true≢false (sym on ∙ (ap (λ (hs : List Node). has_node hs (nodes.Store number)) went.holds ∙ free))))

@@ -10,8 +10,8 @@ use Rattle.step_tables.specs.Facts as facts
 use Rattle.step_tables.specs.Messages.{Request, Pair, Message, Send, Luck, SyncRequest, SyncResponse, PullRequest, PullResponse, TornRowRequest, TornRowResponse}
 use Rattle.step_tables.specs.Messages as messages
 use Rattle.step_tables.specs.Chunks.{rising, new_names, old_names, is_spelled}
-use Rattle.step_tables.specs.StoreMoves.{StoreDisk, StoreTask, StoreChange, OpenChunks, OpenRows, OpenLog, Open, PutChunk, Put, DropChunk, Close, changed, TableStore, StoreMove, Take, Work, Crash}
-use Rattle.step_tables.specs.StoreMoves.{Start, store_step, quiet, worked, crashed, item_at, drops, recovering, recovered, recover, started, takes, unaccepted, responded, sending, item_for, puts}
+use Rattle.step_tables.specs.StoreMoves.{StoreDisk, StoreTask, StoreChange, OpenChunks, OpenRows, OpenLog, Open, PutChunk, Put, DropChunk, Close, PutBeside, PutState, PutSub, SidePut, changed}
+use Rattle.step_tables.specs.StoreMoves.{TableStore, StoreMove, Take, Place, Work, Crash, Start, store_step, placed, quiet, worked, crashed, item_at, drops, recovering, recovered, recover, started, takes, unaccepted, responded, sending, item_for, puts}
 use Rattle.step_tables.specs.StoreMoves.{accepting, version_of, keeps_there, judged, decided, asked, taken, yours_in}
 use Rattle.name_laws.proofs.Rows.{AreWellNamed}
 use Rattle.name_laws.proofs.Spelled.{all_named}
@@ -33,7 +33,7 @@ HasNames size d (Some agenda) = KeepsNames size d.items agenda
 abbrev pub IsNamedStore : ℕ → TableStore → Type 0
 IsNamedStore size s = HasNames size s.disk s.agenda
 
-named_now : (size : ℕ) (items : List Stored) (agenda : List StoreTask) → KeepsNames size items agenda → AreWellNamed size items
+pub named_now : (size : ℕ) (items : List Stored) (agenda : List StoreTask) → KeepsNames size items agenda → AreWellNamed size items
 named_now size items [] k = k
 named_now size items (task ∷ more) k = k.0
 
@@ -46,6 +46,8 @@ behind_is d (PutChunk name) = refl
 behind_is d (Put item named old) = refl
 behind_is d (DropChunk name) = refl
 behind_is d Close = refl
+behind_is d (PutBeside (PutState state)) = refl
+behind_is d (PutBeside (PutSub client terms)) = refl
 
 done_keeps : (size : ℕ) (d : StoreDisk) (task : StoreTask) (more : List StoreTask) → KeepsNames size d.items (task ∷ more) → KeepsNames size (changed d task.change).items more
 done_keeps size d task more k = subst (λ (items : List Stored). KeepsNames size items more) (sym (behind_is d task.change)) k.1
@@ -140,9 +142,15 @@ taken_keeps g size table d (Some []) from (PullResponse q) k = k
 taken_keeps g size table d (Some []) from (TornRowRequest q) k = k
 taken_keeps g size table d (Some []) from (TornRowResponse q) k = k
 
+placed_keeps : (size table : ℕ) (d : StoreDisk) (agenda : Option (List StoreTask)) (put : SidePut) → HasNames size d agenda → IsNamedStore size (placed table d agenda put).store
+placed_keeps size table d None put k = k
+placed_keeps size table d (Some (task ∷ more)) put k = k
+placed_keeps size table d (Some []) put k = (k, k)
+
 -- every move keeps it
 pub move_keeps : (store : ℕ) (g : Scheme) (size table : ℕ) (s : TableStore) (move : StoreMove) → IsNamedStore size s → IsNamedStore size (store_step store g size table s move).store
 move_keeps store g size table s (Take from m) k = taken_keeps g size table s.disk s.agenda from m k
+move_keeps store g size table s (Place put) k = placed_keeps size table s.disk s.agenda put k
 move_keeps store g size table s (Work luck) k = worked_keeps size s.disk s.agenda luck k
 move_keeps store g size table s (Crash luck) k = crashed_keeps size s.disk s.agenda luck k
 move_keeps store g size table s Start k = started_keeps size store table s.disk s.agenda k

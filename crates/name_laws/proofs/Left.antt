@@ -10,7 +10,8 @@ use Rattle.step_tables.specs.Facts as facts
 use Rattle.step_tables.specs.Messages.{Request, Pair, Message, Send, Luck, SyncRequest, SyncResponse, PullRequest, PullResponse, TornRowRequest, TornRowResponse}
 use Rattle.step_tables.specs.Messages as messages
 use Rattle.step_tables.specs.Chunks.{is_of_version, without_names, rising, names_with, new_names, old_names, is_spelled}
-use Rattle.step_tables.specs.StoreMoves.{StoreDisk, StoreTask, TableStore, StoreMove, Take, Work, Crash, Start, Open, PutChunk, Put, DropChunk, Close, changed, store_step}
+use Rattle.step_tables.specs.StoreMoves.{StoreDisk, StoreTask, TableStore, StoreMove, Take, Place, Work, Crash, Start, Open, PutChunk, Put, DropChunk, Close, PutState, PutSub, SidePut, changed, store_step}
+use Rattle.step_tables.specs.StoreMoves.{placed}
 use Rattle.step_tables.specs.StoreMoves.{quiet, worked, crashed, item_at, ends_with, drops, recovering, recovered, recover, started, takes, unaccepted, responded, sending, item_for, puts}
 use Rattle.step_tables.specs.StoreMoves.{accepting, version_of}
 use Rattle.step_tables.specs.StoreMoves.{keeps_there, judged, decided, asked, taken, yours_in}
@@ -178,10 +179,18 @@ take_clean g size table d (Some []) from (PullResponse q) c = c
 take_clean g size table d (Some []) from (TornRowRequest q) c = c
 take_clean g size table d (Some []) from (TornRowResponse q) c = c
 
+place_clean : (table : ℕ) (d : StoreDisk) (agenda : Option (List StoreTask)) (put : SidePut) → IsClean d agenda
+    → IsClean (placed table d agenda put).store.disk (placed table d agenda put).store.agenda
+place_clean table d None put c = c
+place_clean table d (Some (task ∷ more)) put c = c
+place_clean table d (Some []) (PutState state) c = (λ none. c, c)
+place_clean table d (Some []) (PutSub client terms) c = (λ none. c, c)
+
 -- every move keeps it
 pub move_clean : (store : ℕ) (g : Scheme) (size table : ℕ) (s : TableStore) (move : StoreMove) → IsClean s.disk s.agenda
     → IsClean (store_step store g size table s move).store.disk (store_step store g size table s move).store.agenda
 move_clean store g size table s (Take from m) c = take_clean g size table s.disk s.agenda from m c
+move_clean store g size table s (Place put) c = place_clean table s.disk s.agenda put c
 move_clean store g size table s (Work luck) c = done_clean s.disk s.agenda luck c
 move_clean store g size table s (Crash luck) c = crash_clean s.disk s.agenda luck c
 move_clean store g size table s Start c = start_clean store table s.disk s.agenda c

@@ -308,9 +308,12 @@ crashes_went number calls lucks w f =
 pub start_went : (w : World) (table : ℕ) → IsFine w → Went w (start_hosted w table (hosted_at w table))
 start_went w table f = go (hosted_at w table)
   where
-    made : (hosted : Hosted) (b : Bool) → Went w (if b then move_table table store.Start w else after_table w table (record hosted { made = true }) (declared_late (owner_of w table) table))
+    late : Hosted → StoreStep
+    late hosted = declared_late (owner_of w table) table hosted.store.disk.state
+
+    made : (hosted : Hosted) (b : Bool) → Went w (if b then move_table table store.Start w else after_table w table (record hosted { made = true }) (late hosted))
     made hosted true = table_went w table store.Start tt f
-    made hosted false = after_went w table (record hosted { made = true }) (declared_late (owner_of w table) table) f (record { facts = (tt, tt); sends = tt; agenda = tt })
+    made hosted false = after_went w table (record hosted { made = true }) (late hosted) f (record { facts = (tt, tt); sends = tt; agenda = tt })
         (nothing_named (chunk_in (schema_at w table))) refl
 
     go : (o : Option Hosted) → Went w (start_hosted w table o)

@@ -18,6 +18,7 @@ use Rattle.row_value.specs.declared.fit.FitFault.{FitFault}
 use Rattle.row_value.specs.Fit.{fit_of}
 use Rattle.row_edits.specs.declared.change.Edit.{Edit}
 use Rattle.row_edits.specs.Edit.{edited_to}
+use Rattle.table_model.specs.declared.table_state.TableState.TheVariants as states
 use Rattle.step_tables.specs.Slots.{Main, Shadow, InFlight}
 use Rattle.step_tables.specs.Facts.{Fact, ClientFact, Answer}
 use Rattle.step_tables.specs.Facts as facts
@@ -26,10 +27,10 @@ use Rattle.step_tables.specs.Messages.{TornPulled, TornRowRequest, TornRowRespon
 use Rattle.step_tables.specs.Messages as messages
 use Rattle.step_tables.specs.Store.{Stored, current_of}
 use Rattle.step_tables.specs.StoreMoves as store
-use Rattle.step_tables.specs.StoreMoves.{StoreDisk, StoreTask, TableStore, StoreMove, StoreStep, store_step}
+use Rattle.step_tables.specs.StoreMoves.{StoreDisk, StoreTask, TableStore, StoreMove, StoreStep, SidePut, store_step}
 use Rattle.step_tables.specs.Chunks.{rising, new_names, old_names, is_named, is_spelled}
 use Rattle.step_tables.specs.ClientMoves as client
-use Rattle.step_tables.specs.ClientMoves.{Slots, TableDisk, ClientDisk, ClientTask, Client, ClientMove, ClientStep, Plan, RowPut, RowOut, Shape, client_step}
+use Rattle.step_tables.specs.ClientMoves.{Slots, TableDisk, ClientDisk, ClientTask, Client, ClientMove, ClientStep, Plan, RowPut, RowOut, Shape, TableChange, client_step}
 
 abbrev pub IsPlainFact : Fact → Type 0
 IsPlainFact (facts.Sent packet from to name) = ⊥
@@ -72,7 +73,7 @@ keeps_plain [] more p = p
 keeps_plain (step ∷ steps) more p = (tt, tt, keeps_plain steps more p)
 
 rest_plain : (shape : Shape) (p : Plan) (sends : List Send) → ToOwners sends → ArePlainTasks (client.rest_of shape p sends)
-rest_plain shape p sends t = go p.row p.position
+rest_plain shape p sends t = puts p.alters
   where
     last : List ClientTask
     last = client.keeps shape.after ++ record { change = client.Finish; facts = []; sends = sends } ∷ []
@@ -85,6 +86,10 @@ rest_plain shape p sends t = go p.row p.position
     go None (Some n) = (tt, tt, ends)
     go (Some x) None = (tt, tt, ends)
     go (Some x) (Some n) = (tt, tt, (tt, tt, ends))
+
+    puts : (change : Option TableChange) → ArePlainTasks (client.put_tasks p change last)
+    puts None = go p.row p.position
+    puts (Some change) = (tt, tt, ends)
 
 quiet_plain : (d : ClientDisk) (agenda : Option (List ClientTask)) (a : Answer) → IsPlainAgenda agenda → IsPlainStep (client.quiet d agenda a)
 quiet_plain d agenda a p = record { facts = tt; sends = tt; agenda = p }
@@ -351,6 +356,22 @@ module _ (c : ℕ) (shape : Shape) (d : ClientDisk) where
   take_plain (Some []) (TornRowRequest q) p = quiet_plain d (Some []) _ tt
   take_plain (Some []) (TornRowResponse q) p = torn_in_plain q (client.table_at (client.seen d) q.table)
 
+  -- ---- a table that is opened or closed
+
+  alter_in_plain : (agenda : List ClientTask) (table : ℕ) (change : TableChange) → ArePlainTasks agenda → IsPlainStep (client.alter_in c shape d agenda table change)
+  alter_in_plain (task ∷ more) table change p = quiet_plain d (Some (task ∷ more)) _ p
+  alter_in_plain [] table change p = go (client.may_alter change (client.table_at (client.seen d) table))
+    where
+      go : (b : Bool) → IsPlainStep (if b then client.begun shape d facts.Done (client.alter_plan c d table change) [] else client.ignored d)
+      go true = begun_plain shape d _ _ [] tt
+      go false = quiet_plain d (Some []) _ tt
+
+  alter_plain : (agenda : Option (List ClientTask)) (table : ℕ) (change : TableChange) → IsPlainAgenda agenda → IsPlainStep (client.alter_step c shape d agenda table change)
+  alter_plain None table change p = quiet_plain d None _ tt
+  alter_plain (Some agenda) table change p = alter_in_plain agenda table change p
+
+  -- ---- work, crashes and starts
+
   work_plain : (agenda : Option (List ClientTask)) (luck : Luck) → IsPlainAgenda agenda → IsPlainStep (client.worked d agenda luck)
   work_plain None messages.Done p = quiet_plain d None _ tt
   work_plain None messages.FailedBefore p = quiet_plain d None _ tt
@@ -403,6 +424,7 @@ client_plain c shape s (client.Show table row) p = show_plain c shape s.disk s.a
 client_plain c shape s (client.Sum table row) p = sum_plain c shape s.disk s.agenda table row p
 client_plain c shape s (client.Sync table) p = sync_plain c shape s.disk s.agenda table p
 client_plain c shape s (client.Next table tears asks) p = next_plain c shape s.disk s.agenda table tears asks p
+client_plain c shape s (client.Alter table change) p = alter_plain c shape s.disk s.agenda table change p
 client_plain c shape s (client.Take m) p = take_plain c shape s.disk s.agenda m p
 client_plain c shape s (client.Work luck) p = work_plain c shape s.disk s.agenda luck p
 client_plain c shape s (client.BeginCr table) p = phase_plain c shape s.disk s.agenda table p
@@ -494,6 +516,17 @@ module _ (g : Scheme) (size table : ℕ) (d : StoreDisk) (from : Node) (place : 
   taken_plain (Some []) (TornRowRequest q) p = sending_plain d _ (place, tt)
   taken_plain (Some []) (TornRowResponse q) p = still_plain d (Some []) _ tt
 
+beside_plain : (table : ℕ) (put : SidePut) → ArePlainFacts (store.told_beside table put)
+beside_plain table (store.PutState states.Draft) = tt
+beside_plain table (store.PutState states.Live) = (tt, tt)
+beside_plain table (store.PutState states.Dropped) = (tt, tt)
+beside_plain table (store.PutSub client terms) = tt
+
+placed_plain : (table : ℕ) (d : StoreDisk) (agenda : Option (List StoreTask)) (put : SidePut) → HasPlainWrites agenda → IsPlainMove (store.placed table d agenda put)
+placed_plain table d None put p = still_plain d None _ tt
+placed_plain table d (Some (task ∷ more)) put p = still_plain d (Some (task ∷ more)) _ p
+placed_plain table d (Some []) put p = still_plain d (Some (store.beside_task table put ∷ [])) _ (beside_plain table put, tt, tt)
+
 worked_plain : (d : StoreDisk) (agenda : Option (List StoreTask)) (luck : Luck) → HasPlainWrites agenda → IsPlainMove (store.worked d agenda luck)
 worked_plain d None messages.Done p = still_plain d None _ tt
 worked_plain d None messages.FailedBefore p = record { facts = tt; sends = tt; agenda = tt }
@@ -534,6 +567,7 @@ IsFrom other = Unit {0}
 
 pub move_plain : (number : ℕ) (g : Scheme) (size table : ℕ) (s : TableStore) (move : StoreMove) → IsFrom move → HasPlainWrites s.agenda → IsPlainMove (store_step number g size table s move)
 move_plain number g size table s (store.Take from m) f p = taken_plain g size table s.disk from f s.agenda m p
+move_plain number g size table s (store.Place put) f p = placed_plain table s.disk s.agenda put p
 move_plain number g size table s (store.Work luck) f p = worked_plain s.disk s.agenda luck p
 move_plain number g size table s (store.Crash luck) f p = crashed_plain s.disk s.agenda luck
 move_plain number g size table s store.Start f p = started_plain number table s.disk s.agenda p

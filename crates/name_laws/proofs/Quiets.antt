@@ -1,4 +1,4 @@
--- Where a Store is quiet, none of its tables has writes to do.
+-- Where a Store is quiet, none of its tables has writes to do, but such that put something beside its rows.
 use Rattle.std.proofs.Common.{◌≡◌, ◌≢◌, ◌⊎◌, inl, inr, ⊎_elim, ℕ, zero, suc, Bool, true, false, List, [], ◌∷◌, ◌++◌, Option, Some, None, refl, sym, ◌∙◌, ap, subst, arith, true≢false}
 use Rattle.std.specs.Prelude.{◌+◌, map, not, drop, ◌==◌, ◌&&◌, ◌||◌, slice_get, option_map, if◌then◌else◌}
 use Rattle.std.proofs.lemmas.Bool.Decides.{nat_tests}
@@ -9,12 +9,14 @@ use Rattle.row_value.specs.declared.schema.Schema.{Schema}
 use Rattle.table_model.specs.declared.line.RowPair.{RowPair}
 use Rattle.table_model.specs.declared.event.Event.{Event}
 use Rattle.table_model.specs.declared.event.Event.TheVariants as events
+use Rattle.table_model.specs.declared.table_state.TableState.{TableState}
+use Rattle.table_model.specs.declared.table_state.TableState.TheVariants as states
 use Rattle.step_tables.specs.Facts.{Answer}
 use Rattle.step_tables.specs.Facts as facts
 use Rattle.step_tables.specs.Messages.{Message, Luck, table_of}
 use Rattle.step_tables.specs.Messages as messages
 use Rattle.step_tables.specs.StoreMoves as store
-use Rattle.step_tables.specs.StoreMoves.{StoreTask}
+use Rattle.step_tables.specs.StoreMoves.{StoreTask, StoreMove, SidePut}
 use Rattle.step_tables.specs.ClientMoves as client
 use Rattle.step_tables.specs.ClientMoves.{Client, ClientTask, ClientMove, Shape, no_shape}
 use Rattle.step_tables.proofs.Lists.{among_get}
@@ -25,7 +27,7 @@ use Rattle.world_tables.specs.World.{without_node, is_down, still}
 use Rattle.world_tables.specs.World.{and_then, lines_of, tasks_in, with_store, joining}
 use Rattle.world_tables.specs.World.{move_table, move_hosted, move_client, first_luck, other_lucks, client_tasks, client_follows, gets_tasks, client_follows_from}
 use Rattle.world_tables.specs.World.{store_falls, busy_table, write_next, store_until_idle, table_follows, table_crashes, crash_luck, store_crashes, store_starts}
-use Rattle.world_tables.specs.World.{answering, answered, refused, unless_down, agenda_of, with_table, declared, joined}
+use Rattle.world_tables.specs.World.{answering, answered, refused, unless_down, agenda_of, new_hosted, with_table, declared, joined, puts_beside, opens, created, dropped}
 use Rattle.world_tables.specs.World.{call_there, call, take_read, take_at, to_hosted, to_there, carried, delivered, row_read, store_shows, chunk_names, history_lines, worked, all_worked}
 use Rattle.world_tables.specs.World.{crashed, started, step}
 use Rattle.world_tables.specs.World.{Lucks, starts_by, with_link, linked}
@@ -38,7 +40,7 @@ use Rattle.world_laws.proofs.Owners.{hosted_by_is, up_store}
 use Rattle.name_laws.proofs.Plain.{IsPlace}
 use Rattle.name_laws.proofs.Moves.{IsFine, IsAddressed, packets_in}
 use Rattle.name_laws.proofs.Steps.{to_join, holding, Stepped, lines_sent, lines_answer, stores_by, holds_by, schemas_by, step_stepped, start_fine}
-use Rattle.name_laws.proofs.Idle.{Idle, other_idle, fallen_idle, until_idle, busy_none, table_follows_idle, down_idle, starts_idle}
+use Rattle.name_laws.proofs.Idle.{AreBesideRows, Idle, other_idle, fallen_idle, until_idle, write_idle, table_follows_idle, kept_idle, placed_idle, starts_idle}
 
 -- ---- clients change no Store
 
@@ -51,7 +53,7 @@ follows_stores agenda c lucks w = go (gets_tasks agenda w c)
 
 call_stores : (w : World) (c : ℕ) (move : ClientMove) (shape : Shape) (lucks : List Luck) (o : Option Client) → client_at w c ≡ o → IsSameStores w (call_there w c move shape lucks o).world
 call_stores w c move shape lucks o at = call_is (λ (s : WorldStep). IsSameStores w s.world) w c move shape lucks (λ r before. stores_same w)
-    (client_stores w c (client.Crash messages.FailedBefore) no_shape)
+    (client_stores w c (client.Crash messages.FailedBefore) no_shape) (λ take. stores_same w)
     (λ node is. let v : World = (move_client c move shape w).world in
     stores_then w v (client_follows_from node.agenda c (other_lucks lucks) v).world (client_stores w c move shape) (follows_stores node.agenda c (other_lucks lucks) v)) o at
 
@@ -206,24 +208,23 @@ module _ (w : World) (f : IsFine w) (number : ℕ) where
   fall_idle node has idle = ⊎_elim (λ same. subst (Idle (store_falls node w).world) same (fallen_idle node w has))
       (λ apart. other_idle node number w (store_falls node w).world (store_falls_beside node w) (λ e. apart (sym e)) idle) (same_or_other node number)
 
-  -- a message to a table, at its owner
-  take_beside : (table : ℕ) (from : Node) (m : Message) (lucks : List Luck) (hosted : Hosted) (o : Option (List StoreTask))
-      → IsBeside (owner_of w table) w (take_at w table hosted (store.Take from m) lucks o).world
-  take_beside table from m lucks hosted o = go o
+  -- a move of a table that reads its disks, at its owner
+  take_beside : (table : ℕ) (move : StoreMove) (lucks : List Luck) (hosted : Hosted) (o : Option (List StoreTask)) → IsBeside (owner_of w table) w (take_at w table hosted move lucks o).world
+  take_beside table move lucks hosted o = go o
     where
       x : World
-      x = (move_table table (store.Take from m) w).world
+      x = (move_table table move w).world
 
       moved : IsBeside (owner_of w table) w x
-      moved = move_beside w table (store.Take from m)
+      moved = move_beside w table move
 
-      reads : (luck : Luck) → IsBeside (owner_of w table) w (take_read w table hosted (store.Take from m) (other_lucks lucks) luck).world
+      reads : (luck : Luck) → IsBeside (owner_of w table) w (take_read w table hosted move (other_lucks lucks) luck).world
       reads messages.Done = beside_then (owner_of w table) w x (table_follows table (other_lucks lucks) x).world moved
           (subst (λ (n : ℕ). IsBeside n x (table_follows table (other_lucks lucks) x).world) (owners_stay (owner_of w table) w x moved table) (table_follows_beside table (other_lucks lucks) x))
       reads messages.FailedBefore = store_falls_beside (owner_of w table) w
       reads messages.FailedAfter = store_falls_beside (owner_of w table) w
 
-      go : (o : Option (List StoreTask)) → IsBeside (owner_of w table) w (take_at w table hosted (store.Take from m) lucks o).world
+      go : (o : Option (List StoreTask)) → IsBeside (owner_of w table) w (take_at w table hosted move lucks o).world
       go None = moved
       go (Some (task ∷ more)) = moved
       go (Some []) = reads (first_luck lucks)
@@ -238,15 +239,18 @@ module _ (w : World) (f : IsFine w) (number : ℕ) where
 
       reads : (luck : Luck) → Idle (take_read w table hosted (store.Take from m) (other_lucks lucks) luck).world number
       reads messages.Done = subst (Idle (table_follows table (other_lucks lucks) (move_table table (store.Take from m) w).world).world) own
-          (table_follows_idle w table from m (other_lucks lucks) f place has (subst (Idle w) (sym own) idle)
-          (ap (λ (n : ℕ). has_node w.holds (nodes.Store n)) own ∙ free))
+          (table_follows_idle w table (store.Take from m) (other_lucks lucks) f place has (subst (Idle w) (sym own) idle)
+          (λ on. absurd (true≢false (sym on ∙ (ap (λ (n : ℕ). has_node w.holds (nodes.Store n)) own ∙ free)))))
       reads messages.FailedBefore = fell
       reads messages.FailedAfter = fell
 
+      kept : hosted.store.agenda ≢ Some [] → Idle (move_table table (store.Take from m) w).world number
+      kept busy = subst (λ (o : Option Hosted). Idle (move_hosted w table (store.Take from m) o).world number) (sym at) (kept_idle w table number hosted from m idle own at busy)
+
       go : (o : Option (List StoreTask)) → hosted.store.agenda ≡ o → Idle (take_at w table hosted (store.Take from m) lucks o).world number
       go (Some []) is = reads (first_luck lucks)
-      go (Some (task ∷ more)) is = absurd (let none : [] ≡ task ∷ more = sym (idle table hosted own at) ∙ ap tasks_in is in cc)
-      go None is = subst (λ (o : Option Hosted). Idle (move_hosted w table (store.Take from m) o).world number) (sym at) (down_idle w table number hosted from m idle is)
+      go (Some (task ∷ more)) is = kept (λ e. let both : Some (task ∷ more) ≡ Some [] = sym is ∙ e in absurd cc)
+      go None is = kept (λ e. let both : None ≡ Some [] = sym is ∙ e in absurd cc)
 
   hosted_idle : (node table : ℕ) (from : Node) (m : Message) (lucks : List Luck) → IsPlace from → has_store w node ≡ true → Idle w number
       → (node ≡ number → has_node w.holds (nodes.Store number) ≡ false) → Idle (to_hosted w table (store.Take from m) lucks (hosted_by w node table)).world number
@@ -258,7 +262,7 @@ module _ (w : World) (f : IsFine w) (number : ℕ) where
           let there = hosted_by_is w node table hosted by in
           ⊎_elim
           (λ same. owner_takes table from m lucks place (ap (has_store w) there.0 ∙ has) (there.0 ∙ same) idle (free same) hosted there.1 hosted.store.agenda refl)
-          (λ apart. other_idle (owner_of w table) number w _ (take_beside table from m lucks hosted hosted.store.agenda) (λ e. apart (sym (e ∙ there.0))) idle) (same_or_other node number)
+          (λ apart. other_idle (owner_of w table) number w _ (take_beside table (store.Take from m) lucks hosted hosted.store.agenda) (λ e. apart (sym (e ∙ there.0))) idle) (same_or_other node number)
 
   carried_idle : (q : Quiet) → q.held ≡ w.holds → (p : Packet) (shape : Shape) (lucks : List Luck) → (to : Node) → IsAddressed w p to
       → (IsLoud q.loud number ≡ false → Idle w number) → IsLoud (comes_to q (Some to)) number ≡ false → Idle (carried w p shape lucks to).world number
@@ -293,6 +297,39 @@ module _ (w : World) (f : IsFine w) (number : ℕ) where
       go (Some p) at = carried_idle q held p shape lucks p.to (f.places p (among_get w.packets n p at)) idle
           (subst (λ (o : Option Node). IsLoud (comes_to q o) number ≡ false) (found ∙ ap (option_map (λ (x : Packet). x.to)) at) quiet)
 
+  -- ---- a table that is made or dropped
+
+  owner_places : (table : ℕ) (put : SidePut) (lucks : List Luck) → has_store w (owner_of w table) ≡ true → Idle w (owner_of w table) → (hosted : Hosted) (o : Option (List StoreTask))
+      → Idle (take_at w table hosted (store.Place put) lucks o).world (owner_of w table)
+  owner_places table put lucks has idle hosted o = go o
+    where
+      moved : Idle (move_table table (store.Place put) w).world (owner_of w table)
+      moved = placed_idle w table (owner_of w table) put idle refl
+
+      reads : (luck : Luck) → Idle (take_read w table hosted (store.Place put) (other_lucks lucks) luck).world (owner_of w table)
+      reads messages.Done = table_follows_idle w table (store.Place put) (other_lucks lucks) f tt has idle (λ on. moved)
+      reads messages.FailedBefore = fallen_idle (owner_of w table) w has
+      reads messages.FailedAfter = fallen_idle (owner_of w table) w has
+
+      go : (o : Option (List StoreTask)) → Idle (take_at w table hosted (store.Place put) lucks o).world (owner_of w table)
+      go (Some []) = reads (first_luck lucks)
+      go (Some (task ∷ more)) = moved
+      go None = moved
+
+  beside_idle : (node table : ℕ) (put : SidePut) (lucks : List Luck) → Idle w number → Idle (puts_beside w node table put lucks).world number
+  beside_idle node table put lucks idle = down_idle_step w (nodes.Store node) _ number idle (λ up. go (up_store w node up).0 (hosted_by w node table) refl)
+    where
+      go : has_store w node ≡ true → (o : Option Hosted) → hosted_by w node table ≡ o → Idle (to_hosted w table (store.Place put) lucks o).world number
+      go has None by = idle
+      go has (Some hosted) by =
+          let there = hosted_by_is w node table hosted by in
+          let s : WorldStep = take_at w table hosted (store.Place put) lucks hosted.store.agenda in
+          ⊎_elim
+          (λ same. subst (Idle s.world) (there.0 ∙ same)
+          (owner_places table put lucks (ap (has_store w) there.0 ∙ has) (subst (Idle w) (sym (there.0 ∙ same)) idle) hosted hosted.store.agenda))
+          (λ apart. other_idle (owner_of w table) number w s.world (take_beside table (store.Place put) lucks hosted hosted.store.agenda) (λ e. apart (sym (e ∙ there.0))) idle)
+          (same_or_other node number)
+
   shows_idle : (table : ℕ) (row : List ℕ) (lucks : List Luck) → Idle w number → (o : Option Hosted) → Idle (store_shows w table row lucks o).world number
   shows_idle table row lucks idle None = idle
   shows_idle table row lucks idle (Some hosted) = down_idle_step w (nodes.Store (owner_of w table)) _ number idle (λ up. read up (first_luck lucks))
@@ -305,26 +342,26 @@ module _ (w : World) (f : IsFine w) (number : ℕ) where
       read up messages.FailedBefore = fell up
       read up messages.FailedAfter = fell up
 
-  with_table_idle : (table : ℕ) (schema : Schema) (made : Bool) → Idle w number → Idle (with_table w table schema made) number
-  with_table_idle table schema made idle q found own at = ⊎_elim
-      (λ e. let both : Some new ≡ Some found = sym e.1 ∙ at in let same : new ≡ found = cc in subst (λ (y : Hosted). tasks_in y.store.agenda ≡ []) same (none made))
+  with_table_idle : (table : ℕ) (schema : Schema) (state : TableState) (made : Bool) → Idle w number → Idle (with_table w table schema state made) number
+  with_table_idle table schema state made idle q found own at = ⊎_elim
+      (λ e. let both : Some new ≡ Some found = sym e.1 ∙ at in let same : new ≡ found = cc in subst (λ (y : Hosted). AreBesideRows (tasks_in y.store.agenda)) same (none made))
       (λ e. idle q found (ap (λ (o : Option Schema). owner_by w.stores o) (sym (others e.0)) ∙ own) (sym e.1 ∙ at)) (look_cases w.tables table new q)
     where
       new : Hosted
-      new = record { store = record { disk = record { items = []; pending = None; left = [] }; agenda = agenda_of made }; history = []; made = made }
+      new = new_hosted state made
 
-      others : q ≢ table → schema_at (with_table w table schema made) q ≡ schema_at w q
+      others : q ≢ table → schema_at (with_table w table schema state made) q ≡ schema_at w q
       others apart = ⊎_elim (λ e. absurd (apart e.0)) (λ e. e.1) (look_cases w.schemas table schema q)
 
-      none : (b : Bool) → tasks_in (agenda_of b) ≡ []
-      none true = refl
-      none false = refl
+      none : (b : Bool) → AreBesideRows (tasks_in (agenda_of b))
+      none true = tt
+      none false = tt
 
-  declared_idle : (table : ℕ) (schema : Schema) (luck : Luck) → Idle w number → (o : Option Hosted) → Idle (declared w table schema luck o) number
-  declared_idle table schema luck idle (Some hosted) = idle
-  declared_idle table schema messages.Done idle None = with_table_idle table schema true idle
-  declared_idle table schema messages.FailedBefore idle None = with_table_idle table schema false idle
-  declared_idle table schema messages.FailedAfter idle None = with_table_idle table schema false idle
+  declared_idle : (table : ℕ) (schema : Schema) (state : TableState) (luck : Luck) → Idle w number → (o : Option Hosted) → Idle (declared w table schema state luck o) number
+  declared_idle table schema state luck idle (Some hosted) = idle
+  declared_idle table schema state messages.Done idle None = with_table_idle table schema state true idle
+  declared_idle table schema state messages.FailedBefore idle None = with_table_idle table schema state false idle
+  declared_idle table schema state messages.FailedAfter idle None = with_table_idle table schema state false idle
 
   history_idle : (table : ℕ) → Idle w number → (o : Option Hosted) → Idle (history_lines w table o).world number
   history_idle table idle None = idle
@@ -349,6 +386,20 @@ module _ (w : World) (f : IsFine w) (number : ℕ) where
   call_idle : (c : ℕ) (move : ClientMove) (shape : Shape) (lucks : List Luck) → Idle w number → Idle (call w c move shape lucks).world number
   call_idle c move shape lucks idle = same_idle w (call w c move shape lucks).world number (call_stores w c move shape lucks (client_at w c) refl) idle
 
+  created_idle : (table : ℕ) (shape : Shape) (lucks : List Luck) → Idle w number → (node : Node) → Idle (created w table shape lucks node).world number
+  created_idle table shape lucks idle (nodes.Store n) = beside_idle n table (store.PutState states.Live) lucks idle
+  created_idle table shape lucks idle (nodes.Client c) = go (schema_at w table)
+    where
+      go : (o : Option Schema) → Idle (opens w c table shape lucks o).world number
+      go None = idle
+      go (Some schema) = call_idle c (client.Alter table (client.Opens schema)) shape lucks idle
+  created_idle table shape lucks idle (nodes.Gate gate) = idle
+
+  dropped_idle : (table : ℕ) (shape : Shape) (lucks : List Luck) → Idle w number → (node : Node) → Idle (dropped w table shape lucks node).world number
+  dropped_idle table shape lucks idle (nodes.Store n) = beside_idle n table (store.PutState states.Dropped) lucks idle
+  dropped_idle table shape lucks idle (nodes.Client c) = call_idle c (client.Alter table client.Closes) shape lucks idle
+  dropped_idle table shape lucks idle (nodes.Gate gate) = idle
+
   conflicts_idle : (c : ℕ) (move : ClientMove) (shape : Shape) (lucks : List Luck) → Idle w number → Idle (listed (call w c move shape lucks)).world number
   conflicts_idle c move shape lucks idle = same_idle w (listed (call w c move shape lucks)).world number
       (listed_stores w (call w c move shape lucks) (call_stores w c move shape lucks (client_at w c) refl)) idle
@@ -362,15 +413,15 @@ module _ (w : World) (f : IsFine w) (number : ℕ) where
 
   -- ---- what is done to a node
 
-  worked_idle : (lucks : List Luck) → Idle w number → (node : Node) → Idle (worked w lucks node).world number
-  worked_idle lucks idle (nodes.Store n) = ⊎_elim
+  worked_idle : (lucks : List Luck) → Idle w number → (node : Node) → is_down w node ≡ false → Idle (worked w lucks node).world number
+  worked_idle lucks idle (nodes.Store n) up = ⊎_elim
       (λ same. subst (λ (k : ℕ). Idle (write_next k (first_luck lucks) (busy_table w k) w).world number) (sym same)
-      (subst (λ (o : Option ℕ). Idle (write_next number (first_luck lucks) o w).world number) (sym (busy_none number w idle)) idle))
+      (write_idle number (first_luck lucks) w f (ap (has_store w) (sym same) ∙ (up_store w n up).0) idle))
       (λ apart. other_idle n number w _ (write_beside n (first_luck lucks) w) (λ e. apart (sym e)) idle) (same_or_other n number)
-  worked_idle lucks idle (nodes.Client c) =
+  worked_idle lucks idle (nodes.Client c) up =
       let tasks : List ClientTask = client_tasks (client_at w c) in
       same_idle w (client_writes c (first_luck lucks) tasks w).world number (client_writes_stores c (first_luck lucks) tasks w) idle
-  worked_idle lucks idle (nodes.Gate gate) = idle
+  worked_idle lucks idle (nodes.Gate gate) up = idle
 
   all_worked_idle : (lucks : List Luck) (node : Node) → is_down w node ≡ false → (same_node (nodes.Store number) node ≡ false → Idle w number) → Idle (all_worked w lucks node).world number
   all_worked_idle lucks (nodes.Store n) up idle = ⊎_elim
@@ -465,7 +516,7 @@ module _ (w : World) (f : IsFine w) (number : ℕ) where
       apart : ((number == n) ≡ false) × (IsLoud (first ∷ more) number ≡ false)
       apart = or_false (number == n) (IsLoud (first ∷ more) number) quiet
 
--- no Store that isn't loud has writes to do
+-- no Store that isn't loud has writes to do, but beside its rows
 abbrev pub AreIdle : World → List Node → Type 0
 AreIdle w loud = (number : ℕ) → has_node loud (nodes.Store number) ≡ false → Idle w number
 
@@ -473,11 +524,14 @@ step_idle : (w : World) → IsFine w → (q : Quiet) → q.held ≡ w.holds → 
     → AreIdle (step w event lucks).world (loud_after q event (step w event lucks).answer)
 step_idle w f q held sent (events.Store number) lucks idle n quiet = store_idle w f n q.loud number idle quiet
 step_idle w f q held sent (events.Gate number) lucks idle n quiet = idle n quiet
-step_idle w f q held sent (events.Table table schema) lucks idle n quiet = declared_idle w f n table schema (first_luck lucks.calls) (idle n quiet) (hosted_at w table)
+step_idle w f q held sent (events.Table table schema) lucks idle n quiet = declared_idle w f n table schema states.Live (first_luck lucks.calls) (idle n quiet) (hosted_at w table)
+step_idle w f q held sent (events.Draft table schema) lucks idle n quiet = declared_idle w f n table schema states.Draft (first_luck lucks.calls) (idle n quiet) (hosted_at w table)
 step_idle w f q held sent (events.Client c gate tables) lucks idle n quiet = joined_idle w f n c tables (first_luck lucks.calls) (idle n quiet) (client_at w c)
 step_idle w f q held sent (events.Write c table row x) lucks idle n quiet = call_idle w f n c (client.Write table row x) lucks.shape lucks.calls (idle n quiet)
 step_idle w f q held sent (events.Edit c table row x) lucks idle n quiet = call_idle w f n c (client.Change table row x) lucks.shape lucks.calls (idle n quiet)
 step_idle w f q held sent (events.Link c up) lucks idle n quiet = linked_idle w f n c up (idle n quiet) (client_at w c)
+step_idle w f q held sent (events.Create node table) lucks idle n quiet = created_idle w f n table lucks.shape lucks.calls (idle n quiet) node
+step_idle w f q held sent (events.Drop node table) lucks idle n quiet = dropped_idle w f n table lucks.shape lucks.calls (idle n quiet) node
 step_idle w f q held sent (events.Show c table row) lucks idle n quiet = call_idle w f n c (client.Show table row) lucks.shape lucks.calls (idle n quiet)
 step_idle w f q held sent (events.Sum c table row) lucks idle n quiet = call_idle w f n c (client.Sum table row) lucks.shape lucks.calls (idle n quiet)
 step_idle w f q held sent (events.Sync c table) lucks idle n quiet = call_idle w f n c (client.Sync table) lucks.shape lucks.calls (idle n quiet)
@@ -492,7 +546,7 @@ step_idle w f q held sent (events.StoreShow table row) lucks idle n quiet = show
 step_idle w f q held sent (events.History table) lucks idle n quiet = history_idle w f n table (idle n quiet) (hosted_at w table)
 step_idle w f q held sent (events.Hold node) lucks idle n quiet = down_idle_step w node _ n (idle n quiet) (λ up. idle n quiet)
 step_idle w f q held sent (events.Free node) lucks idle n quiet = down_idle_step w node _ n (idle n quiet) (λ up. idle n quiet)
-step_idle w f q held sent (events.Work node) lucks idle n quiet = down_idle_step w node _ n (idle n quiet) (λ up. worked_idle w f n lucks.calls (idle n quiet) node)
+step_idle w f q held sent (events.Work node) lucks idle n quiet = down_idle_step w node _ n (idle n quiet) (λ up. worked_idle w f n lucks.calls (idle n quiet) node up)
 step_idle w f q held sent (events.WorkAll node) lucks idle n quiet = all_idle_by w f n q.loud node lucks.calls (idle n) quiet
 step_idle w f q held sent (events.Crash node calls pick) lucks idle n quiet = down_idle_step w node _ n (idle n quiet) (λ up. crashed_idle w f n calls lucks.calls (idle n quiet) node up)
 step_idle w f q held sent (events.Start node) lucks idle n quiet = started_idle w f n q held lucks.shape lucks.calls (idle n) node quiet

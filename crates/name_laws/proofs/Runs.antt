@@ -9,12 +9,15 @@ use Rattle.row_value.specs.declared.schema.Schema.{Schema}
 use Rattle.row_value.specs.declared.schema.Scheme.{Scheme}
 use Rattle.table_model.specs.declared.event.Event.{Event}
 use Rattle.table_model.specs.declared.event.Event.TheVariants as events
+use Rattle.table_model.specs.declared.table_state.TableState.{TableState}
+use Rattle.table_model.specs.declared.table_state.TableState.TheVariants as states
 use Rattle.step_tables.specs.Facts.{Answer, Line}
 use Rattle.step_tables.specs.Facts as facts
 use Rattle.step_tables.specs.Messages.{Luck}
 use Rattle.step_tables.specs.Messages as messages
 use Rattle.step_tables.specs.Sayings.{Said, nothing_said, hear_lines}
-use Rattle.step_tables.specs.StoreMoves.{StoreTask}
+use Rattle.step_tables.specs.Store.{Stored}
+use Rattle.step_tables.specs.StoreMoves.{StoreDisk, StoreTask}
 use Rattle.store_laws.specs.Part as part
 use Rattle.client_laws.proofs.Law.{client_law}
 use Rattle.client_laws.proofs.Grows.{client_grows, lapsed_grows}
@@ -23,7 +26,7 @@ use Rattle.world_tables.specs.Quiet.{Quiet, at_first, names_in, AreTheChunks, sc
 use Rattle.world_tables.specs.Sound.{scheme_for}
 use Rattle.world_tables.specs.Turns.{Happening, Turn, turns_from, turns}
 use Rattle.world_tables.specs.World.{Lucks, World, Hosted, WorldStep, start, owner_by, owner_of, hosted_at, schema_at, chunk_in, has_node, is_down, tasks_in, lines_of, first_luck}
-use Rattle.world_tables.specs.World.{answered, refused, agenda_of, with_table, made_with, declared, names_on, names_answer}
+use Rattle.world_tables.specs.World.{answered, refused, new_hosted, with_table, made_with, declared, names_on, names_answer}
 use Rattle.world_tables.specs.World.{chunk_names, step}
 use Rattle.world_laws.proofs.Kept.{KnownIn, Kept}
 use Rattle.world_laws.proofs.Looks.{look_cases}
@@ -32,9 +35,10 @@ use Rattle.world_laws.proofs.Runs.{step_sound, first_is, scheme_on, start_kept, 
 use Rattle.world_laws.proofs.Runs as runs
 use Rattle.world_laws.proofs.Fresh.{fresh_part}
 use Rattle.name_laws.proofs.Rows.{AreWellNamed}
-use Rattle.name_laws.proofs.Keeps.{HasNames}
+use Rattle.name_laws.proofs.Keeps.{HasNames, named_now}
 use Rattle.name_laws.proofs.Left.{IsClean}
 use Rattle.name_laws.proofs.Listed.{listed}
+use Rattle.name_laws.proofs.Idle.{AreBesideRows, clear_now}
 use Rattle.name_laws.proofs.Moves.{IsFine}
 use Rattle.name_laws.proofs.Steps.{stores_by, holds_by, schemas_by, step_stepped, lines_answer}
 use Rattle.name_laws.proofs.Quiets.{Follows, start_follows, step_follows}
@@ -45,35 +49,42 @@ pub record IsKnown (schemas : ℕ → Option Schema) (w : World) (es : List Even
   pub here : (table : ℕ) (schema : Schema) → schema_at w table ≡ Some schema → schemas table ≡ Some schema
   pub later : (table : ℕ) → hosted_at w table ≡ None → schemas table ≡ schema_for es table
 
-with_new_there : (w : World) (table : ℕ) (schema : Schema) (made : Bool) → hosted_at (with_table w table schema made) table ≡ None → ⊥
-with_new_there w table schema made none = ⊎_elim (λ e. absurd (let both : Some new ≡ None = sym e.1 ∙ none in cc)) (λ e. absurd (e.0 refl)) (look_cases w.tables table new table)
+with_new_there : (w : World) (table : ℕ) (schema : Schema) (state : TableState) (made : Bool) → hosted_at (with_table w table schema state made) table ≡ None → ⊥
+with_new_there w table schema state made none = ⊎_elim (λ e. absurd (let both : Some new ≡ None = sym e.1 ∙ none in cc)) (λ e. absurd (e.0 refl)) (look_cases w.tables table new table)
   where
     new : Hosted
-    new = record { store = record { disk = record { items = []; pending = None; left = [] }; agenda = agenda_of made }; history = []; made = made }
+    new = new_hosted state made
 
-new_there : (w : World) (table : ℕ) (schema : Schema) (luck : Luck) → hosted_at (made_with w table schema luck) table ≡ None → ⊥
-new_there w table schema messages.Done none = with_new_there w table schema true none
-new_there w table schema messages.FailedBefore none = with_new_there w table schema false none
-new_there w table schema messages.FailedAfter none = with_new_there w table schema false none
+new_there : (w : World) (table : ℕ) (schema : Schema) (state : TableState) (luck : Luck) → hosted_at (made_with w table schema state luck) table ≡ None → ⊥
+new_there w table schema state messages.Done none = with_new_there w table schema state true none
+new_there w table schema state messages.FailedBefore none = with_new_there w table schema state false none
+new_there w table schema state messages.FailedAfter none = with_new_there w table schema state false none
 
-declared_there : (w : World) (table : ℕ) (schema : Schema) (luck : Luck) (o : Option Hosted) → hosted_at w table ≡ o → hosted_at (declared w table schema luck o) table ≡ None → ⊥
-declared_there w table schema luck (Some hosted) at none = absurd (let both : Some hosted ≡ None = sym at ∙ none in cc)
-declared_there w table schema luck None at none = new_there w table schema luck none
+declared_there : (w : World) (table : ℕ) (schema : Schema) (state : TableState) (luck : Luck) (o : Option Hosted) → hosted_at w table ≡ o
+    → hosted_at (declared w table schema state luck o) table ≡ None → ⊥
+declared_there w table schema state luck (Some hosted) at none = absurd (let both : Some hosted ≡ None = sym at ∙ none in cc)
+declared_there w table schema state luck None at none = new_there w table schema state luck none
 
--- a table that isn't there behind an event wasn't declared by it
-pub schema_on : (w : World) (event : Event) (lucks : Lucks) (es : List Event) (table : ℕ) → hosted_at (step w event lucks).world table ≡ None → schema_for (event ∷ es) table ≡ schema_for es table
-schema_on w (events.Table number schema) lucks es table none = go (number == table) refl
+-- a table that isn't there behind its declaration says nothing of any
+declared_on : (w : World) (number : ℕ) (schema : Schema) (state : TableState) (luck : Luck) (es : List Event) (table : ℕ)
+    → hosted_at (declared w number schema state luck (hosted_at w number)) table ≡ None → (if number == table then Some schema else schema_for es table) ≡ schema_for es table
+declared_on w number schema state luck es table none = go (number == table) refl
   where
     go : (b : Bool) → (number == table) ≡ b → (if b then Some schema else schema_for es table) ≡ schema_for es table
     go false e = refl
     go true e =
         let same : number ≡ table = grind (arith, nat_tests, e) in
-        absurd (declared_there w number schema (first_luck lucks.calls) (hosted_at w number) refl
-        (subst (λ (n : ℕ). hosted_at (step w (events.Table number schema) lucks).world n ≡ None) (sym same) none))
+        absurd (declared_there w number schema state luck (hosted_at w number) refl
+        (subst (λ (n : ℕ). hosted_at (declared w number schema state luck (hosted_at w number)) n ≡ None) (sym same) none))
+
+-- a table that isn't there behind an event wasn't declared by it
+pub schema_on : (w : World) (event : Event) (lucks : Lucks) (es : List Event) (table : ℕ) → hosted_at (step w event lucks).world table ≡ None → schema_for (event ∷ es) table ≡ schema_for es table
+schema_on w (events.Table number schema) lucks es table none = declared_on w number schema states.Live (first_luck lucks.calls) es table none
+schema_on w (events.Draft number schema) lucks es table none = declared_on w number schema states.Draft (first_luck lucks.calls) es table none
 schema_on w other lucks es table none = refl
 
 -- the first declaration of a table says what it is
-pub first_schema : (table : ℕ) (schema : Schema) (es : List Event) → schema_for (events.Table table schema ∷ es) table ≡ Some schema
+pub first_schema : (table : ℕ) (schema : Schema) (es : List Event) → (if table == table then Some schema else schema_for es table) ≡ Some schema
 first_schema table schema es = go (table == table) refl
   where
     go : (b : Bool) → (table == table) ≡ b → (if b then Some schema else schema_for es table) ≡ Some schema
@@ -84,21 +95,26 @@ abbrev ArePut : (ℕ → Option Schema) → List (ℕ × Schema) → Type 0
 ArePut schemas some = (table : ℕ) (schema : Schema) → schema_at (record start { schemas = some }) table ≡ Some schema → schemas table ≡ Some schema
 
 module _ (schemas : ℕ → Option Schema) (w : World) where
-  with_put : (table : ℕ) (schema : Schema) (made : Bool) → schemas table ≡ Some schema → ArePut schemas w.schemas → ArePut schemas (with_table w table schema made).schemas
-  with_put table schema made is put q x at = ⊎_elim (λ e. ap schemas e.0 ∙ (is ∙ (sym e.1 ∙ at))) (λ e. put q x (sym e.1 ∙ at)) (look_cases w.schemas table schema q)
+  with_put : (table : ℕ) (schema : Schema) (state : TableState) (made : Bool) → schemas table ≡ Some schema → ArePut schemas w.schemas
+      → ArePut schemas (with_table w table schema state made).schemas
+  with_put table schema state made is put q x at = ⊎_elim (λ e. ap schemas e.0 ∙ (is ∙ (sym e.1 ∙ at))) (λ e. put q x (sym e.1 ∙ at)) (look_cases w.schemas table schema q)
 
-  made_put : (table : ℕ) (schema : Schema) (luck : Luck) → schemas table ≡ Some schema → ArePut schemas w.schemas → ArePut schemas (made_with w table schema luck).schemas
-  made_put table schema messages.Done is put = with_put table schema true is put
-  made_put table schema messages.FailedBefore is put = with_put table schema false is put
-  made_put table schema messages.FailedAfter is put = with_put table schema false is put
+  made_put : (table : ℕ) (schema : Schema) (state : TableState) (luck : Luck) → schemas table ≡ Some schema → ArePut schemas w.schemas
+      → ArePut schemas (made_with w table schema state luck).schemas
+  made_put table schema state messages.Done is put = with_put table schema state true is put
+  made_put table schema state messages.FailedBefore is put = with_put table schema state false is put
+  made_put table schema state messages.FailedAfter is put = with_put table schema state false is put
 
-  declared_put : (table : ℕ) (schema : Schema) (luck : Luck) (o : Option Hosted) → (o ≡ None → schemas table ≡ Some schema) → ArePut schemas w.schemas
-      → ArePut schemas (declared w table schema luck o).schemas
-  declared_put table schema luck (Some hosted) is put = put
-  declared_put table schema luck None is put = made_put table schema luck (is refl) put
+  declared_put : (table : ℕ) (schema : Schema) (state : TableState) (luck : Luck) (o : Option Hosted) → (o ≡ None → schemas table ≡ Some schema) → ArePut schemas w.schemas
+      → ArePut schemas (declared w table schema state luck o).schemas
+  declared_put table schema state luck (Some hosted) is put = put
+  declared_put table schema state luck None is put = made_put table schema state luck (is refl) put
 
   event_put : (event : Event) (lucks : Lucks) (es : List Event) → IsKnown schemas w (event ∷ es) → ArePut schemas (schemas_by w event lucks)
-  event_put (events.Table table schema) lucks es s = declared_put table schema (first_luck lucks.calls) (hosted_at w table) (λ none. s.later table none ∙ first_schema table schema es) s.here
+  event_put (events.Draft table schema) lucks es s =
+      declared_put table schema states.Draft (first_luck lucks.calls) (hosted_at w table) (λ none. s.later table none ∙ first_schema table schema es) s.here
+  event_put (events.Table table schema) lucks es s =
+      declared_put table schema states.Live (first_luck lucks.calls) (hosted_at w table) (λ none. s.later table none ∙ first_schema table schema es) s.here
   event_put other lucks es s = s.here
 
   step_known : IsFine w → (event : Event) (lucks : Lucks) (es : List Event) → ((table : ℕ) → hosted_at (step w event lucks).world table ≡ None → hosted_at w table ≡ None)
@@ -109,6 +125,10 @@ module _ (schemas : ℕ → Option Schema) (w : World) where
   }
 
 -- ---- a list of chunks
+
+told_now : (g : Scheme) (table : ℕ) (known : part.Known) (h : List Stored) (d : StoreDisk) (tasks : List StoreTask) → part.Runs g table known h d tasks → d.items ≡ h
+told_now g table known h d [] runs = runs.0.items
+told_now g table known h d (task ∷ more) runs = runs.0.items
 
 names_listed : (names : List ChunkName) → names_in (names_answer names) ≡ Some names
 names_listed [] = refl
@@ -127,14 +147,16 @@ module _ (g : ℕ → Scheme) (schemas : ℕ → Option Schema) (w : World) (s :
   on_devices table hosted at is_up some quiet =
       let agenda = (up_there w up table hosted at is_up).1 in
       let rest : has_node q.loud (nodes.Store (owner_of w table)) ≡ false = ap (λ (n : ℕ). has_node q.loud (nodes.Store n)) (sym (owner_at table hosted at)) ∙ quiet in
-      let none : agenda.0 ≡ [] = sym (ap tasks_in agenda.1) ∙ f.idle (owner_of w table) rest table hosted refl at in
-      let rests : hosted.store.agenda ≡ Some [] = agenda.1 ∙ ap (λ (tasks : List StoreTask). Some tasks) none in
-      let state = subst (λ (o : Option (List StoreTask)). part.IsAt (g table) table (KnownIn s.heard k.sent table) (k.items table) hosted.store.disk o) rests (k.stores table hosted at).0.state in
-      let clean = subst (λ (o : Option (List StoreTask)). IsClean hosted.store.disk o) rests (f.fine.tables table hosted at).clean in
-      let named = subst (λ (o : Option (List StoreTask)). HasNames (chunk_in (schema_at w table)) hosted.store.disk o) rests (f.fine.tables table hosted at).named in
+      let tasks : List StoreTask = agenda.0 in
+      let beside : AreBesideRows tasks = subst (λ (o : Option (List StoreTask)). AreBesideRows (tasks_in o)) agenda.1 (f.idle (owner_of w table) rest table hosted refl at) in
+      let state = subst (λ (o : Option (List StoreTask)). part.IsAt (g table) table (KnownIn s.heard k.sent table) (k.items table) hosted.store.disk o) agenda.1 (k.stores table hosted at).0.state in
+      let items = told_now (g table) table (KnownIn s.heard k.sent table) (k.items table) hosted.store.disk tasks state in
+      let clean = clear_now tasks hosted.store.disk beside (subst (λ (o : Option (List StoreTask)). IsClean hosted.store.disk o) agenda.1 (f.fine.tables table hosted at).clean) in
+      let named = named_now (chunk_in (schema_at w table)) hosted.store.disk.items tasks
+      (subst (λ (o : Option (List StoreTask)). HasNames (chunk_in (schema_at w table)) hosted.store.disk o) agenda.1 (f.fine.tables table hosted at).named) in
       let size : chunk_in (schemas table) ≡ chunk_in (schema_at w table) = ap chunk_in (known_at table hosted at) in
       subst (λ (n : ℕ). AreChunks s table (chunk_in (schemas table)) (names_on n hosted.store.disk)) size
-      (listed g w s k table (chunk_in (schemas table)) some hosted.store.disk state.0.items (subst (λ (n : ℕ). AreWellNamed n hosted.store.disk.items) (sym size) named) clean)
+      (listed g w s k table (chunk_in (schemas table)) some hosted.store.disk items (subst (λ (n : ℕ). AreWellNamed n hosted.store.disk.items) (sym size) named) clean)
 
   chunks_listed : (table : ℕ) (o : Option Hosted) → hosted_at w table ≡ o → IsListed schemas s q (events.Chunks table) (chunk_names w table o).answer
   chunks_listed table None at = λ some quiet. tt

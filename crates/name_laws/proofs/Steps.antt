@@ -9,12 +9,14 @@ use Rattle.table_model.specs.declared.entry.Entry.{Entry}
 use Rattle.table_model.specs.declared.line.RowPair.{RowPair}
 use Rattle.table_model.specs.declared.event.Event.{Event}
 use Rattle.table_model.specs.declared.event.Event.TheVariants as events
+use Rattle.table_model.specs.declared.table_state.TableState.{TableState}
+use Rattle.table_model.specs.declared.table_state.TableState.TheVariants as states
 use Rattle.step_tables.specs.Facts.{Fact, Answer, Refusal, Line, AnswerLine, EntryLine, PairLine, FactLine}
 use Rattle.step_tables.specs.Facts as facts
-use Rattle.step_tables.specs.Messages.{Message, Luck, table_of, name_of}
+use Rattle.step_tables.specs.Messages.{Luck, table_of, name_of}
 use Rattle.step_tables.specs.Messages as messages
 use Rattle.step_tables.specs.StoreMoves as store
-use Rattle.step_tables.specs.StoreMoves.{StoreTask}
+use Rattle.step_tables.specs.StoreMoves.{StoreTask, StoreMove, SidePut}
 use Rattle.step_tables.specs.ClientMoves as client
 use Rattle.step_tables.specs.ClientMoves.{Client, ClientTask, ClientMove, Shape, no_shape, client_step, is_cut_off, kept_out}
 use Rattle.step_tables.proofs.Lists.{among_get, among_none}
@@ -25,11 +27,11 @@ use Rattle.world_tables.specs.World.{and_unless, failing, lines_of}
 use Rattle.world_tables.specs.World.{lines_from, sent_lines}
 use Rattle.world_tables.specs.World.{move_table, move_client, table_step, other_lucks, first_luck, busy_table, busy_step, write_next, tasks_of, store_falls, table_follows, store_until_idle}
 use Rattle.world_tables.specs.World.{store_crashes, store_starts}
-use Rattle.world_tables.specs.World.{answering, answered, refused, silent, unless_down, agenda_of, with_table, made_with, declared}
+use Rattle.world_tables.specs.World.{answering, answered, refused, silent, unless_down, new_hosted, with_table, made_with, declared, puts_beside, opens, created, dropped}
 use Rattle.world_tables.specs.World.{joined, client_follows_from}
 use Rattle.world_tables.specs.World.{call_there, take_read, take_at, to_hosted, to_there, carried, delivered, row_read, row_shown, store_shows, names_on, names_answer, chunk_names}
 use Rattle.world_tables.specs.World.{entry_lines, history_lines, worked, all_worked, crashed, started, step}
-use Rattle.world_tables.specs.World.{Lucks, starts_by, client_falls, first_agenda, is_cut, is_resolving, with_link, unless_cut, unless_kept, calls, call, linked}
+use Rattle.world_tables.specs.World.{Lucks, starts_by, client_falls, first_agenda, is_cut, is_resolving, with_link, unless_cut, unless_kept, table_of_move, is_closed, closed_answer, unless_closed, calls, call, linked}
 use Rattle.world_tables.specs.World.{listed, first_shape, other_shapes, chosen_of, client_pairs, resolve_by, plan_size, resolve_each, resolve_all}
 use Rattle.world_tables.specs.World as world
 use Rattle.step_tables.specs.Store.{current_of}
@@ -38,7 +40,7 @@ use Rattle.world_laws.proofs.Looks.{look_cases}
 use Rattle.name_laws.specs.Owners.{WasOwner}
 use Rattle.name_laws.proofs.Rows.{nothing_named}
 use Rattle.name_laws.proofs.Keys.{insert_keys_rise}
-use Rattle.name_laws.proofs.Plain.{IsPlainFact, ArePlainFacts, IsPlace, IsPlainAgenda}
+use Rattle.name_laws.proofs.Plain.{IsPlainFact, ArePlainFacts, IsPlainAgenda, IsFrom}
 use Rattle.name_laws.proofs.Moves.{IsFineTable, IsAddressed, IsFine, packets_in, ArePlainOuts, Went, still_went, then_went, unless_went, failing_went, table_went, client_went, works_went}
 use Rattle.name_laws.proofs.Moves.{client_follows_went}
 use Rattle.name_laws.proofs.Moves.{client_writes_went, follows_from_went, store_falls_went}
@@ -67,6 +69,8 @@ facts_sent (fact ∷ more) rest p = one fact p.0 (facts_sent more rest p.1)
     one (facts.Forward t e) q later = later
     one (facts.Back t v) q later = later
     one (facts.StoreRecovered n t) q later = later
+    one (facts.Made t) q later = later
+    one (facts.Unmade t) q later = later
     one (facts.ClientRecovered c) q later = later
     one (facts.Torn c t r) q later = later
     one (facts.Sent n a b m) q later = absurd q
@@ -158,8 +162,16 @@ call_stepped w c move shape lucks f (Some node) = down_stepped w (nodes.Client c
     by_phase None = by_link (is_cut w c && is_cut_off c shape node move)
     by_phase (Some refusal) = answered_stepped w (facts.Refuses refusal) f
 
-    reads : (luck : Luck) → Stepped w w.stores w.holds w.schemas (world.reads w c luck (unless_kept w (kept_out (is_resolving w c) move (client_step c shape node move).answer) linked))
-    reads messages.Done = by_phase (kept_out (is_resolving w c) move (client_step c shape node move).answer)
+    kept : WorldStep
+    kept = unless_kept w (kept_out (is_resolving w c) move (client_step c shape node move).answer) linked
+
+    by_table : (closed : Bool) → Stepped w w.stores w.holds w.schemas (unless_closed w closed (closed_answer shape (is_cut w c) node.agenda move) kept)
+    by_table true = answered_stepped w (closed_answer shape (is_cut w c) node.agenda move) f
+    by_table false = by_phase (kept_out (is_resolving w c) move (client_step c shape node move).answer)
+
+    reads : (luck : Luck) → Stepped w w.stores w.holds w.schemas
+        (world.reads w c luck (unless_closed w (is_closed node (table_of_move move)) (closed_answer shape (is_cut w c) node.agenda move) kept))
+    reads messages.Done = by_table (is_closed node (table_of_move move))
     reads messages.FailedBefore = fallen
     reads messages.FailedAfter = fallen
 
@@ -240,34 +252,34 @@ module _ (c table : ℕ) (by : Stored) where
 
 -- ---- messages, and what the Store has
 
-hosted_stepped : (w : World) (table : ℕ) (from : Node) (m : Message) (lucks : List Luck) → IsPlace from → IsFine w → (o : Option Hosted)
-    → Stepped w w.stores w.holds w.schemas (to_hosted w table (store.Take from m) lucks o)
-hosted_stepped w table from m lucks place f None = answered_stepped w facts.Done f
-hosted_stepped w table from m lucks place f (Some hosted) = go hosted.store.agenda
+hosted_stepped : (w : World) (table : ℕ) (move : StoreMove) (lucks : List Luck) → IsFrom move → IsFine w → (o : Option Hosted)
+    → Stepped w w.stores w.holds w.schemas (to_hosted w table move lucks o)
+hosted_stepped w table move lucks from f None = answered_stepped w facts.Done f
+hosted_stepped w table move lucks from f (Some hosted) = go hosted.store.agenda
   where
     first : Moved
-    first = move_table table (store.Take from m) w
+    first = move_table table move w
 
     went : Went w first
-    went = table_went w table (store.Take from m) place f
+    went = table_went w table move from f
 
-    alone : Stepped w w.stores w.holds w.schemas (answering (table_step w table hosted (store.Take from m)).answer first)
-    alone = answering_stepped w (table_step w table hosted (store.Take from m)).answer first went
+    alone : Stepped w w.stores w.holds w.schemas (answering (table_step w table hosted move).answer first)
+    alone = answering_stepped w (table_step w table hosted move).answer first went
 
-    reads : (luck : Luck) → Stepped w w.stores w.holds w.schemas (take_read w table hosted (store.Take from m) (other_lucks lucks) luck)
+    reads : (luck : Luck) → Stepped w w.stores w.holds w.schemas (take_read w table hosted move (other_lucks lucks) luck)
     reads messages.FailedBefore = fallen_stepped w (owner_of w table) f
     reads messages.FailedAfter = fallen_stepped w (owner_of w table) f
-    reads messages.Done = answering_stepped w (table_step w table hosted (store.Take from m)).answer (and_then first (table_follows table (other_lucks lucks)))
+    reads messages.Done = answering_stepped w (table_step w table hosted move).answer (and_then first (table_follows table (other_lucks lucks)))
         (then_went w first (table_follows table (other_lucks lucks)) went (λ x. table_follows_went table (other_lucks lucks) first.world x))
 
-    go : (o : Option (List StoreTask)) → Stepped w w.stores w.holds w.schemas (take_at w table hosted (store.Take from m) lucks o)
+    go : (o : Option (List StoreTask)) → Stepped w w.stores w.holds w.schemas (take_at w table hosted move lucks o)
     go None = alone
     go (Some (task ∷ more)) = alone
     go (Some []) = reads (first_luck lucks)
 
 carried_stepped : (w : World) (p : Packet) (shape : Shape) (lucks : List Luck) → IsFine w → (to : Node) → IsAddressed w p to → Stepped w w.stores w.holds w.schemas (carried w p shape lucks to)
 carried_stepped w p shape lucks f (nodes.Store number) place =
-    down_stepped w (nodes.Store number) _ f (hosted_stepped w (table_of p.message) p.from p.message lucks place.0 f (hosted_by w number (table_of p.message)))
+    down_stepped w (nodes.Store number) _ f (hosted_stepped w (table_of p.message) (store.Take p.from p.message) lucks place.0 f (hosted_by w number (table_of p.message)))
 carried_stepped w p shape lucks f (nodes.Gate gate) place = answered_stepped w facts.Done f
 carried_stepped w p shape lucks f (nodes.Client c) place = go (client_at w c)
   where
@@ -279,6 +291,25 @@ delivered_stepped : (w : World) (n : ℕ) (shape : Shape) (lucks : List Luck) �
     → Stepped w w.stores w.holds w.schemas (delivered w shape lucks o)
 delivered_stepped w n shape lucks f None at = answered_stepped w (facts.Refuses (facts.NoPacket (length w.packets))) f
 delivered_stepped w n shape lucks f (Some p) at = carried_stepped w p shape lucks f p.to (f.places p (among_get w.packets n p at))
+
+-- ---- a table that is made or dropped
+
+beside_stepped : (w : World) (number table : ℕ) (put : SidePut) (lucks : List Luck) → IsFine w → Stepped w w.stores w.holds w.schemas (puts_beside w number table put lucks)
+beside_stepped w number table put lucks f = down_stepped w (nodes.Store number) _ f (hosted_stepped w table (store.Place put) lucks tt f (hosted_by w number table))
+
+created_stepped : (w : World) (table : ℕ) (shape : Shape) (lucks : List Luck) → IsFine w → (node : Node) → Stepped w w.stores w.holds w.schemas (created w table shape lucks node)
+created_stepped w table shape lucks f (nodes.Store number) = beside_stepped w number table (store.PutState states.Live) lucks f
+created_stepped w table shape lucks f (nodes.Client c) = go (schema_at w table)
+  where
+    go : (o : Option Schema) → Stepped w w.stores w.holds w.schemas (opens w c table shape lucks o)
+    go None = answered_stepped w facts.Done f
+    go (Some schema) = call_stepped w c (client.Alter table (client.Opens schema)) shape lucks f (client_at w c)
+created_stepped w table shape lucks f (nodes.Gate gate) = answered_stepped w facts.Done f
+
+dropped_stepped : (w : World) (table : ℕ) (shape : Shape) (lucks : List Luck) → IsFine w → (node : Node) → Stepped w w.stores w.holds w.schemas (dropped w table shape lucks node)
+dropped_stepped w table shape lucks f (nodes.Store number) = beside_stepped w number table (store.PutState states.Dropped) lucks f
+dropped_stepped w table shape lucks f (nodes.Client c) = call_stepped w c (client.Alter table client.Closes) shape lucks f (client_at w c)
+dropped_stepped w table shape lucks f (nodes.Gate gate) = answered_stepped w facts.Done f
 
 shows_stepped : (w : World) (table : ℕ) (row : List ℕ) (lucks : List Luck) → IsFine w → (o : Option Hosted) → Stepped w w.stores w.holds w.schemas (store_shows w table row lucks o)
 shows_stepped w table row lucks f None = answered_stepped w (facts.Refuses facts.NoTable) f
@@ -318,8 +349,8 @@ silent_stepped w x f packets holds = record {
   unanswered = λ none. (refl, refl);
 }
 
-pub with_table_fine : (w : World) (table : ℕ) (schema : Schema) (made : Bool) → hosted_at w table ≡ None → IsFine w → IsFine (with_table w table schema made)
-with_table_fine w table schema made none f = record {
+pub with_table_fine : (w : World) (table : ℕ) (schema : Schema) (state : TableState) (made : Bool) → hosted_at w table ≡ None → IsFine w → IsFine (with_table w table schema state made)
+with_table_fine w table schema state made none f = record {
   keys = insert_keys_rise w.tables table new f.keys;
   known = λ q gone. ⊎_elim (λ e. absurd (let both : Some new ≡ None = sym e.1 ∙ gone in cc)) (λ e. others q e.0 ∙ f.known q (sym e.1 ∙ gone)) (look_cases w.tables table new q);
   tables = λ q x at. ⊎_elim
@@ -331,10 +362,10 @@ with_table_fine w table schema made none f = record {
 }
   where
     after : World
-    after = with_table w table schema made
+    after = with_table w table schema state made
 
     new : Hosted
-    new = record { store = record { disk = record { items = []; pending = None; left = [] }; agenda = agenda_of made }; history = []; made = made }
+    new = new_hosted state made
 
     others : (q : ℕ) → q ≢ table → schema_at after q ≡ schema_at w q
     others q apart = ⊎_elim (λ e. absurd (apart e.0)) (λ e. e.1) (look_cases w.schemas table schema q)
@@ -358,19 +389,19 @@ with_table_fine w table schema made none f = record {
           is = is.1.is;
         }
 
-    new_fine : (size : ℕ) (b : Bool) → IsFineTable size (record { disk = record { items = []; pending = None; left = [] }; agenda = agenda_of b })
+    new_fine : (size : ℕ) (b : Bool) → IsFineTable size (new_hosted state b).store
     new_fine size true = record { named = nothing_named size; clean = refl; writes = tt }
     new_fine size false = record { named = nothing_named size; clean = λ none. refl; writes = tt }
 
-declared_stepped : (w : World) (table : ℕ) (schema : Schema) (luck : Luck) → IsFine w → (o : Option Hosted) → hosted_at w table ≡ o
-    → Stepped w w.stores w.holds (declared w table schema luck o).schemas (silent (declared w table schema luck o))
-declared_stepped w table schema luck f (Some hosted) at = silent_stepped w w f refl refl
-declared_stepped w table schema luck f None at = go luck
+declared_stepped : (w : World) (table : ℕ) (schema : Schema) (state : TableState) (luck : Luck) → IsFine w → (o : Option Hosted) → hosted_at w table ≡ o
+    → Stepped w w.stores w.holds (declared w table schema state luck o).schemas (silent (declared w table schema state luck o))
+declared_stepped w table schema state luck f (Some hosted) at = silent_stepped w w f refl refl
+declared_stepped w table schema state luck f None at = go luck
   where
-    made_so : (made : Bool) → Stepped w w.stores w.holds (with_table w table schema made).schemas (silent (with_table w table schema made))
-    made_so made = silent_stepped w (with_table w table schema made) (with_table_fine w table schema made at f) refl refl
+    made_so : (made : Bool) → Stepped w w.stores w.holds (with_table w table schema state made).schemas (silent (with_table w table schema state made))
+    made_so made = silent_stepped w (with_table w table schema state made) (with_table_fine w table schema state made at f) refl refl
 
-    go : (l : Luck) → Stepped w w.stores w.holds (made_with w table schema l).schemas (silent (made_with w table schema l))
+    go : (l : Luck) → Stepped w w.stores w.holds (made_with w table schema state l).schemas (silent (made_with w table schema state l))
     go messages.Done = made_so true
     go messages.FailedBefore = made_so false
     go messages.FailedAfter = made_so false
@@ -528,7 +559,8 @@ freed_stepped w node lucks f = go (is_down w node)
 
 -- the schemas behind an event
 abbrev pub schemas_by : World → Event → Lucks → List (ℕ × Schema)
-schemas_by w (events.Table table schema) lucks = (declared w table schema (first_luck lucks.calls) (hosted_at w table)).schemas
+schemas_by w (events.Table table schema) lucks = (declared w table schema states.Live (first_luck lucks.calls) (hosted_at w table)).schemas
+schemas_by w (events.Draft table schema) lucks = (declared w table schema states.Draft (first_luck lucks.calls) (hosted_at w table)).schemas
 schemas_by w other lucks = w.schemas
 
 -- the Stores behind an event
@@ -539,11 +571,14 @@ stores_by w other = w.stores
 pub step_stepped : (w : World) (event : Event) (lucks : Lucks) → IsFine w → Stepped w (stores_by w event) (holds_by w event lucks) (schemas_by w event lucks) (step w event lucks)
 step_stepped w (events.Store number) lucks f = silent_stepped w (with_store number w) (with_store_fine number w f) refl refl
 step_stepped w (events.Gate number) lucks f = silent_stepped w w f refl refl
-step_stepped w (events.Table table schema) lucks f = declared_stepped w table schema (first_luck lucks.calls) f (hosted_at w table) refl
+step_stepped w (events.Table table schema) lucks f = declared_stepped w table schema states.Live (first_luck lucks.calls) f (hosted_at w table) refl
+step_stepped w (events.Draft table schema) lucks f = declared_stepped w table schema states.Draft (first_luck lucks.calls) f (hosted_at w table) refl
 step_stepped w (events.Client c gate tables) lucks f = joined_stepped w c tables (first_luck lucks.calls) f (client_at w c)
 step_stepped w (events.Write c table row x) lucks f = call_stepped w c (client.Write table row x) lucks.shape lucks.calls f (client_at w c)
 step_stepped w (events.Edit c table row x) lucks f = call_stepped w c (client.Change table row x) lucks.shape lucks.calls f (client_at w c)
 step_stepped w (events.Link c up) lucks f = linked_stepped w c up f (client_at w c)
+step_stepped w (events.Create node table) lucks f = created_stepped w table lucks.shape lucks.calls f node
+step_stepped w (events.Drop node table) lucks f = dropped_stepped w table lucks.shape lucks.calls f node
 step_stepped w (events.Show c table row) lucks f = call_stepped w c (client.Show table row) lucks.shape lucks.calls f (client_at w c)
 step_stepped w (events.Sum c table row) lucks f = call_stepped w c (client.Sum table row) lucks.shape lucks.calls f (client_at w c)
 step_stepped w (events.Sync c table) lucks f = call_stepped w c (client.Sync table) lucks.shape lucks.calls f (client_at w c)

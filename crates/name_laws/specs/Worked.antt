@@ -1,5 +1,5 @@
--- Worked scripts of an object in place of another, whose drop of a chunk crashes or fails, or which keeps a chunk that is
--- gone, with what they write.
+-- Worked scripts of an object in place of another, whose drop of a chunk crashes or fails, or which keeps a chunk that
+-- is gone, with what they write.
 use Rattle.std.specs.Prelude.{List, [], ◌∷◌, ◌++◌, None}
 use Rattle.stab_base.specs.declared.chunk_name.ChunkName.{ChunkName}
 use Rattle.stab_base.specs.declared.node.Node.TheVariants as nodes

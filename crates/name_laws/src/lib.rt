@@ -33,8 +33,8 @@ pub fn a_failed_drop_is_made_up_for()
     ensures left_over { AreListed (failed_drop_written (named 1 0 ∷ named 1 1 ∷ named 2 0 ∷ named 2 1 ∷ [])) → ⊥ }
 {}
 
-/// An object over one that its client had read, of which it keeps a chunk that another client's write has done away with
-/// since, computed: the Store takes it when it comes again with each chunk new.
+/// An object over one that its client had read, of which it keeps a chunk that another client's write has done away
+/// with since, computed: the Store takes it when it comes again with each chunk new.
 pub fn a_kept_chunk_that_is_gone_comes_again()
     ensures run { turns keeps_what_is_gone ≡ keeps_what_is_gone_written whole_names }
     ensures listed { AreListed (keeps_what_is_gone_written whole_names) }

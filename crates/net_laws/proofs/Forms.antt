@@ -1,5 +1,5 @@
 -- The lines of a run with gateways have such forms as those of the run of wires that it is.
-use Rattle.std.proofs.Common.{◌≡◌, ⊎_elim, ℕ, List, [], ◌∷◌, ◌++◌, refl, sym, subst}
+use Rattle.std.proofs.Common.{◌≡◌, ⊎_elim, List, [], ◌∷◌, ◌++◌, sym, subst}
 use Rattle.std.specs.Prelude.{map}
 use Rattle.std.specs.List.{AllByRecursion}
 use Rattle.stab_base.specs.declared.node.Node.{Node}
@@ -19,7 +19,7 @@ use Rattle.form_laws.proofs.Runs.{run_forms}
 use Rattle.form_laws.proofs.Texts.{forms_told}
 use Rattle.form_laws.proofs.Wires.{all_join}
 use Rattle.gated_tables.specs.Runs.{net_turns}
-use Rattle.gated_laws.specs.Carried.{AreLinesCarried, IsLoneAnswer, AreLone, IsLone, IsTurnCarried, IsLinkTurn, AreCarriedFrom, AreCarried}
+use Rattle.gated_laws.specs.Carried.{AreLinesCarried, IsLoneAnswer, AreLone, IsLone, AreCarriedFrom}
 use Rattle.gated_laws.specs.Runs.{AreDeclaredFirst, IsRunOfWires}
 use Rattle.gated_laws.proofs.CarriedTurns.{by_turns}
 use Rattle.gated_laws.proofs.NetRuns.{run_of_wires}

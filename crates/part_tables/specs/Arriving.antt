@@ -1,6 +1,6 @@
 -- What a client keeps in memory of what comes in parts: the answers to its pulls that wait for fragments, the rows that
--- it asked for whole and that wait for them, and which rows are torn. What a part makes of it, where the part's table is
--- opened and the client is up, linked and with no write to be done; and what a pull does.
+-- it asked for whole and that wait for them, and which rows are torn. What a part makes of it, where the part's table
+-- is opened and the client is up, linked and with no write to be done; and what a pull does.
 use Rattle.std.specs.Prelude.{ℕ, ◌==◌, nat_le, ◌&&◌, not, Bool, false, List, [], ◌∷◌, ◌++◌, map, filter, Option, Some}
 use Rattle.std.specs.Prelude.{None, if◌then◌else◌}
 use Rattle.std.specs.List.{find, list_any}
@@ -20,7 +20,8 @@ use Rattle.step_tables.specs.ClientMoves.{Slots, TableDisk, slots_at, top}
 use Rattle.step_tables.specs.Messages.{Header, Message, TornRowResponse}
 use Rattle.part_tables.specs.Parts.{Part, Asks, Responds, Pulls, Answers, BringsUp, BringsDown, AsksTorn, AnswersTorn}
 use Rattle.part_tables.specs.Parts.{RowHead, TornHead, Fragment}
-use Rattle.part_tables.specs.ClientParts.{Answering, Taken, Whole, Tears, Waits, ClientTaken, is_of_table, without_table}
+use Rattle.part_tables.specs.ClientParts.{Answering, Taken, Whole, Tears, Waits, ClientTaken, is_of_table}
+use Rattle.part_tables.specs.ClientParts.{without_table}
 use Rattle.part_tables.specs.ClientParts.{header_with, names_in, waits_for, parted}
 
 -- a row that was asked for whole, with what has come of its chunks

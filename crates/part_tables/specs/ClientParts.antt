@@ -1,7 +1,7 @@
 -- What a client with an opened table, up, linked and with no write to be done, makes of parts of answers to its pulls:
 -- of each table it keeps the last answer that waits for fragments, with what has come of it. What it completes, or
--- doesn't have to wait for, is an answer, which its step table takes; an answer that keeps a chunk that isn't held tears
--- its row.
+-- doesn't have to wait for, is an answer, which its step table takes; an answer that keeps a chunk that isn't held
+-- tears its row.
 use Rattle.std.specs.Prelude.{ℕ, ◌==◌, nat_le, ◌&&◌, not, Bool, true, false, List, [], ◌∷◌, ◌++◌, length, map, filter}
 use Rattle.std.specs.Prelude.{Option, Some, None, if◌then◌else◌}
 use Rattle.std.specs.List.{find, list_any, list_all}
@@ -108,8 +108,8 @@ abbrev pub assembled : ℕ → Slots → Answering → Content
 assembled size slots x =
     joined (bytes_of (held_in size slots)) (sends_of x.head) x.row.content (gathering.chunks_of x.slots)
 
--- an answer comes, or a chunk of one: its row isn't newer than the one that was read, so that its bytes don't matter; or
--- it keeps a chunk that isn't held; or it is complete, or goes on to wait
+-- an answer comes, or a chunk of one: its row isn't newer than the one that was read, so that its bytes don't matter;
+-- or it keeps a chunk that isn't held; or it is complete, or goes on to wait
 abbrev pub weighed : ℕ → Slots → List Answering → Answering → ClientTaken
 weighed size slots others x =
     if nat_le x.row.version (top slots.conflict slots.shadow)

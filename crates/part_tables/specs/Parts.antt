@@ -14,7 +14,8 @@ use Rattle.assemblies.specs.Travel.{is_sent}
 use Rattle.assemblies.specs.Places.{awaited_of}
 use Rattle.assemblies.specs.Parts.{chunk_in}
 use Rattle.step_tables.specs.Chunks.{first_of, others_of}
-use Rattle.step_tables.specs.Messages.{Request, Response, Pull, Pair, Header, Pulled, Message, SyncRequest, SyncResponse}
+use Rattle.step_tables.specs.Messages.{Request, Response, Pull, Pair, Header, Pulled, Message, SyncRequest}
+use Rattle.step_tables.specs.Messages.{SyncResponse}
 use Rattle.step_tables.specs.Messages.{PullRequest, PullResponse, TornPull, TornPulled, TornRowRequest}
 use Rattle.step_tables.specs.Messages.{TornRowResponse}
 

@@ -6,7 +6,7 @@ use Rattle.stab_base.specs.declared.node.Node.TheVariants as nodes
 use Rattle.step_tables.specs.Messages.{Luck}
 use Rattle.step_tables.specs.Messages as messages
 use Rattle.step_tables.specs.StoreMoves as store
-use Rattle.step_tables.specs.StoreMoves.{StoreDisk, StoreTask, StoreMove, StoreStep}
+use Rattle.step_tables.specs.StoreMoves.{StoreDisk, StoreTask, StoreMove, StoreStep, SidePut}
 use Rattle.step_tables.specs.ClientMoves as client
 use Rattle.step_tables.specs.ClientMoves.{Client, ClientTask, ClientMove, Shape, no_shape, client_step}
 use Rattle.world_tables.specs.World.{World, Hosted, Moved, owner_of, tables_of, hosted_at, client_at, has_node, still, and_then, and_unless}
@@ -17,7 +17,7 @@ use Rattle.world_tables.specs.World.{store_follows, table_follows}
 use Rattle.world_tables.specs.World.{declared_late, start_hosted, table_starts, tables_start, store_starts, crash_luck, table_crashes, store_crashes}
 use Rattle.name_laws.proofs.Rows.{AreWellNamed, nothing_named}
 use Rattle.piece_laws.specs.Pieces.{items_in, items_at, asked_in}
-use Rattle.piece_laws.proofs.Tables.{worked_move, crashed_move, started_move}
+use Rattle.piece_laws.proofs.Tables.{worked_move, crashed_move, placed_move, started_move}
 use Rattle.piece_laws.proofs.Moves.{Takes, move_step}
 use Rattle.piece_laws.proofs.Worlds.{IsNamedWorld, client_moved, table_moved}
 
@@ -92,11 +92,30 @@ module _ (size : ℕ → ℕ) where
           (crashed_move (size table) (asked_in w) table hosted.store.disk hosted.store.agenda luck x.grows)
           (λ none. down_crashed hosted.store.disk hosted.store.agenda luck (x.unmade none))
 
+  down_placed : (table : ℕ) (d : StoreDisk) (agenda : Option (List StoreTask)) (put : SidePut) → (d.items ≡ []) × (agenda ≡ None)
+      → ((store.placed table d agenda put).store.disk.items ≡ []) × ((store.placed table d agenda put).store.agenda ≡ None)
+  down_placed table d None put u = (u.0, refl)
+  down_placed table d (Some tasks) put u = absurd (let none = u.1 in cc)
+
+  pub places_at : (w : World) (table : ℕ) (put : SidePut) → Named w → Named (move_table table (store.Place put) w).world
+  places_at w table put k = go (hosted_at w table) refl
+    where
+      go : (o : Option Hosted) → hosted_at w table ≡ o → Named (move_hosted w table (store.Place put) o).world
+      go None at = k
+      go (Some hosted) at =
+          let x = k.tables table hosted at in
+          table_moved size w table hosted hosted (table_step w table hosted (store.Place put)) at k
+          (placed_move (size table) (asked_in w) table hosted.store.disk hosted.store.agenda put x.grows x.sends)
+          (λ none. down_placed table hosted.store.disk hosted.store.agenda put (x.unmade none))
+
   pub starts_at : (w : World) (table : ℕ) → Named w → Named (start_hosted w table (hosted_at w table)).world
   starts_at w table k = go (hosted_at w table) refl
     where
+      late : Hosted → StoreStep
+      late hosted = declared_late (owner_of w table) table hosted.store.disk.state
+
       made : (hosted : Hosted) → hosted_at w table ≡ Some hosted → (b : Bool) → hosted.made ≡ b
-          → Named (if b then move_hosted w table store.Start (Some hosted) else after_table w table (record hosted { made = true }) (declared_late (owner_of w table) table)).world
+          → Named (if b then move_hosted w table store.Start (Some hosted) else after_table w table (record hosted { made = true }) (late hosted)).world
       made hosted at true is =
           let x = k.tables table hosted at in
           table_moved size w table hosted hosted (table_step w table hosted store.Start) at k
@@ -104,14 +123,14 @@ module _ (size : ℕ → ℕ) where
           (λ none. absurd (let both : true ≡ false = sym is ∙ none in cc))
       made hosted at false is =
           let x = k.tables table hosted at in
-          table_moved size w table (record hosted { made = true }) hosted (declared_late (owner_of w table) table) at k
+          table_moved size w table (record hosted { made = true }) hosted (late hosted) at k
           (record { became = inl (sym (x.unmade is).0); grows = tt; sends = tt; known = tt })
           (λ none. absurd cc)
 
       go : (o : Option Hosted) → hosted_at w table ≡ o → Named (start_hosted w table o).world
       go None at = k
       go (Some hosted) at = subst
-          (λ (o : Option Hosted). Named (if hosted.made then move_hosted w table store.Start o else after_table w table (record hosted { made = true }) (declared_late (owner_of w table) table)).world)
+          (λ (o : Option Hosted). Named (if hosted.made then move_hosted w table store.Start o else after_table w table (record hosted { made = true }) (late hosted)).world)
           (sym at) (made hosted at hosted.made refl)
 
   pub named_at : (w : World) → Named w → (table : ℕ) → AreWellNamed (size table) (items_at w table)

@@ -8,10 +8,12 @@ use Rattle.step_tables.specs.Facts.{Fact}
 use Rattle.step_tables.specs.Members.{Among}
 use Rattle.step_tables.specs.Messages.{Request, Message, Send, SyncRequest, SyncResponse, PullRequest, PullResponse, TornRowRequest, TornRowResponse}
 use Rattle.step_tables.specs.ClientMoves.{Slots, TableDisk, RowPut, Plan, ClientDisk, ClientTask, Client, Shape, Commit, PutTable, Finish, slots_in, slots_of, table_at, row_put, table_put, applied, planned_in, seen, changed, told}
+use Rattle.step_tables.specs.ClientMoves.{TableChange, Opens, Closes, opened_table, close_table, altered, rows_applied, applied_by, put_of, put_tasks}
 use Rattle.step_tables.specs.ClientMoves.{only, row_task, table_task, keeps, rest_of, planning, ending}
 use Rattle.step_tables.proofs.Lists.{among_left, among_right, among_either}
-use Rattle.client_laws.proofs.Disks.{TableAlike, Alike, alike_row, alike_table, alike_plan, alike_itself, row_put_plan, table_put_plan}
+use Rattle.client_laws.proofs.Disks.{TableAlike, Alike, alike_row, alike_table, alike_plan, alike_itself, row_put_plan, table_put_plan, altered_plan, altered_slots, alike_altered}
 use Rattle.piece_laws.specs.Pieces.{request_in, KeepsKnown, IsOfOne, SlotsNamed}
+use Rattle.piece_laws.proofs.Altered.{changed_in, altered_cases}
 use Rattle.piece_laws.proofs.Tables.{Became}
 use Rattle.piece_laws.proofs.Outs.{slots_later, slots_fewer, together_became, known_became, became_more}
 
@@ -20,6 +22,11 @@ use Rattle.piece_laws.proofs.Outs.{slots_later, slots_fewer, together_became, kn
 abbrev pub requests_in : List Send → List Request
 requests_in [] = []
 requests_in (send ∷ more) = request_in send.message ++ requests_in more
+
+-- a table is opened with chunks of this size
+abbrev pub HasSize : ℕ → TableChange → Type 0
+HasSize n (Opens schema) = schema.chunk ≡ n
+HasSize n Closes = Unit {0}
 
 module _ (size : ℕ → ℕ) (c : ℕ) where
   -- ---- a client's devices: each row, and no number waits twice
@@ -42,15 +49,32 @@ module _ (size : ℕ → ℕ) (c : ℕ) where
   sized_alike n None (Some b) k f o is = absurd k
   sized_alike n (Some a) None k f o is = absurd k
 
-  pub named_alike : (h : ℕ → List Stored) (sent : List Request) (d e : ClientDisk) → Alike d e → AreNamed h sent d → AreNamed h sent e
-  named_alike h sent d e a k = record {
+  named_slots : (h : ℕ → List Stored) (sent : List Request) (d e : ClientDisk) → ((table : ℕ) (row : List ℕ) → slots_of e table row ≡ slots_of d table row)
+      → ((table : ℕ) (opened : TableDisk) → table_at e table ≡ Some opened → opened.schema.chunk ≡ size table) → AreNamed h sent d → AreNamed h sent e
+  named_slots h sent d e same sizes k = record {
     rows = λ table row. subst (λ (s : Slots). SlotsNamed (size table) c (h table) sent table row s) (sym (same table row)) (k.rows table row);
     apart = λ table row o other place p x y n. k.apart table row o other place p (ap (λ (s : Slots). s.out) (sym (same table row)) ∙ x) (ap (λ (s : Slots). s.out) (sym (same other place)) ∙ y) n;
-    sized = λ table opened at. sized_alike (size table) (table_at d table) (table_at e table) (a.tables table) (k.sized table) opened at;
+    sized = sizes;
   }
-    where
-      same : (table : ℕ) (row : List ℕ) → slots_of e table row ≡ slots_of d table row
-      same table row = slots_alike (table_at d table) (table_at e table) row (a.tables table)
+
+  pub named_alike : (h : ℕ → List Stored) (sent : List Request) (d e : ClientDisk) → Alike d e → AreNamed h sent d → AreNamed h sent e
+  named_alike h sent d e a k = named_slots h sent d e (λ table row. slots_alike (table_at d table) (table_at e table) row (a.tables table))
+      (λ table opened at. sized_alike (size table) (table_at d table) (table_at e table) (a.tables table) (k.sized table) opened at) k
+
+  -- a table that is opened has no rows, and one that is closed keeps them
+  sized_behind : (n : ℕ) (change : TableChange) → HasSize n change → (m : Option TableDisk) → ((o : TableDisk) → m ≡ Some o → o.schema.chunk ≡ n)
+      → (o : TableDisk) → changed_in change m ≡ Some o → o.schema.chunk ≡ n
+  sized_behind n (Opens schema) has None all o is = let same : opened_table schema ≡ o = cc in ap (λ (x : TableDisk). x.schema.chunk) (sym same) ∙ has
+  sized_behind n (Opens schema) has (Some table) all o is = all o is
+  sized_behind n Closes has None all o is = absurd cc
+  sized_behind n Closes has (Some table) all o is = let same : close_table table ≡ o = cc in ap (λ (x : TableDisk). x.schema.chunk) (sym same) ∙ all table refl
+
+  pub altered_named : (h : ℕ → List Stored) (sent : List Request) (d : ClientDisk) (table : ℕ) (change : TableChange) → HasSize (size table) change → AreNamed h sent d
+      → AreNamed h sent (altered d table change)
+  altered_named h sent d table change has k = named_slots h sent d (altered d table change) (altered_slots d table change)
+      (λ q opened at. ⊎_elim
+      (λ e. subst (λ (n : ℕ). opened.schema.chunk ≡ size n) (sym e.0) (sized_behind (size table) change has (table_at d table) (k.sized table) opened (sym e.1 ∙ at)))
+      (λ e. k.sized q opened (sym e.1 ∙ at)) (altered_cases d table change q)) k
 
   pub named_later : (h later : ℕ → List Stored) (sent : List Request) (d : ClientDisk) → ((table : ℕ) → Became (size table) sent table (h table) (later table)) → AreNamed h sent d → AreNamed later sent d
   named_later h later sent d b k = record {
@@ -198,54 +222,82 @@ module _ (size : ℕ → ℕ) (c : ℕ) where
     module _ (shape : Shape) (sent : List Request) (d : ClientDisk) (p : Plan) (sends : List Send) (is : d.plan ≡ Some p) (named : AreNamed h sent (applied p d)) (known : SendsAll h sent sends)
         (after : AreNamed h (sent ++ requests_in sends) (applied p d)) where
       abbrev last : List ClientTask
-      last = record { change = Finish; facts = []; sends = sends } ∷ []
+      last = keeps shape.after ++ record { change = Finish; facts = []; sends = sends } ∷ []
+
+      abbrev all : List Request
+      all = sent ++ requests_in sends
 
       seen_named : (e : ClientDisk) → e.plan ≡ Some p → AreNamed h sent (applied p e) → AreNamed h sent (seen e)
       seen_named e plan_is x = subst (λ (o : Option Plan). AreNamed h sent (planned_in e o)) (sym plan_is) x
 
-      abbrev put : ClientDisk
-      put = row_put d p.last p.table p.row
+      -- where the puts are done
+      last_runs : (e : ClientDisk) → e.plan ≡ Some p → AreNamed h sent (applied p e) → AreNamed h all (record e { plan = None }) → Runs h sent e last
+      last_runs e at now then_ = keeps_runs shape.after sent e (record { change = Finish; facts = []; sends = sends } ∷ []) (seen_named e at now, known, (then_, refl))
 
-      put_plan : put.plan ≡ Some p
-      put_plan = row_put_plan d p.last p.table p.row ∙ is
+      -- of a row and a position
+      module _ (rows : p.alters ≡ None) where
+        of_rows : (some : List Request) (e : ClientDisk) → AreNamed h some (applied p e) → AreNamed h some (rows_applied p e)
+        of_rows some e k = subst (λ (o : Option TableChange). AreNamed h some (applied_by p e o)) rows k
 
-      put_named : AreNamed h sent (applied p put)
-      put_named = named_alike h sent (applied p d) (applied p put) (alike_row p d) named
+        rows_of : (some : List Request) (e : ClientDisk) → AreNamed h some (rows_applied p e) → AreNamed h some (applied p e)
+        rows_of some e k = subst (λ (o : Option TableChange). AreNamed h some (applied_by p e o)) (sym rows) k
 
-      whole_plan : (applied p d).plan ≡ Some p
-      whole_plan = table_put_plan put p.table p.position ∙ put_plan
+        abbrev put : ClientDisk
+        put = row_put d p.last p.table p.row
 
-      whole_named : AreNamed h sent (applied p (applied p d))
-      whole_named = named_alike h sent (applied p put) (applied p (applied p d)) (alike_table p put) put_named
+        abbrev whole : ClientDisk
+        whole = rows_applied p d
 
-      finish_runs : (e : ClientDisk) → e ≡ applied p d → Runs h sent e last
-      finish_runs e at = subst (λ (x : ClientDisk). Runs h sent x last) (sym at) (
-        seen_named (applied p d) whole_plan whole_named,
-        known,
-        (named_alike h (sent ++ requests_in sends) (applied p d) (record (applied p d) { plan = None }) (alike_itself (applied p d) None) after, refl),
-      )
+        put_plan : put.plan ≡ Some p
+        put_plan = row_put_plan d p.last p.table p.row ∙ is
 
-      kept_runs : (e : ClientDisk) → e ≡ applied p d → Runs h sent e (keeps shape.after ++ last)
-      kept_runs e at = keeps_runs shape.after sent e last (finish_runs e at)
+        put_named : AreNamed h sent (rows_applied p put)
+        put_named = named_alike h sent whole (rows_applied p put) (alike_row p d) (of_rows sent d named)
 
-      table_runs : (e : ClientDisk) (position : Option ℕ) → p.position ≡ position → e ≡ put → Runs h sent e (table_task p position ++ (keeps shape.after ++ last))
-      table_runs e None at here = kept_runs e (here ∙ sym (ap (λ (n : Option ℕ). table_put put p.table n) at))
-      table_runs e (Some n) at here = subst (λ (x : ClientDisk). Runs h sent x (only (PutTable p) ∷ (keeps shape.after ++ last))) (sym here) (
-        seen_named put put_plan put_named,
-        tt,
-        unsent sent (applied p d) (keeps shape.after ++ last) (kept_runs (applied p d) refl),
-      )
+        whole_runs : Runs h sent whole last
+        whole_runs = last_runs whole (table_put_plan put p.table p.position ∙ put_plan)
+            (rows_of sent whole (named_alike h sent (rows_applied p put) (rows_applied p whole) (alike_table p put) put_named))
+            (named_alike h all whole (record whole { plan = None }) (alike_itself whole None) (of_rows all d after))
 
-      row_runs : (row : Option RowPut) → p.row ≡ row → Runs h sent d (row_task p row ++ (table_task p p.position ++ (keeps shape.after ++ last)))
-      row_runs None at = table_runs d p.position refl (sym (ap (λ (x : Option RowPut). row_put d p.last p.table x) at))
-      row_runs (Some x) at = (
-        seen_named d is named,
-        tt,
-        unsent sent put (table_task p p.position ++ (keeps shape.after ++ last)) (table_runs put p.position refl refl),
-      )
+        table_runs : (position : Option ℕ) → p.position ≡ position → Runs h sent put (table_task p position ++ last)
+        table_runs None at = subst (λ (n : Option ℕ). Runs h sent (table_put put p.table n) last) at whole_runs
+        table_runs (Some n) at = (
+          seen_named put put_plan (rows_of sent put put_named),
+          tt,
+          unsent sent (changed put (PutTable p)) last (subst (λ (o : Option TableChange). Runs h sent (put_of put p o) last) (sym rows) whole_runs),
+        )
+
+        row_runs : (row : Option RowPut) → p.row ≡ row → Runs h sent d (row_task p row ++ (table_task p p.position ++ last))
+        row_runs None at = subst (λ (x : Option RowPut). Runs h sent (row_put d p.last p.table x) (table_task p p.position ++ last)) at (table_runs p.position refl)
+        row_runs (Some x) at = (seen_named d is named, tt, unsent sent put (table_task p p.position ++ last) (table_runs p.position refl))
+
+      -- of a table that is opened or closed
+      module _ (change : TableChange) (alters : p.alters ≡ Some change) where
+        abbrev new : ClientDisk
+        new = altered d p.table change
+
+        of_change : (some : List Request) → AreNamed h some (applied p d) → AreNamed h some new
+        of_change some k = subst (λ (o : Option TableChange). AreNamed h some (applied_by p d o)) alters k
+
+        new_runs : Runs h sent new last
+        new_runs = last_runs new (altered_plan d p.table change ∙ is)
+            (subst (λ (o : Option TableChange). AreNamed h sent (applied_by p new o)) (sym alters)
+            (named_alike h sent new (altered new p.table change) (alike_altered d p.table change) (of_change sent named)))
+            (named_alike h all new (record new { plan = None }) (alike_itself new None) (of_change all after))
+
+        change_runs : Runs h sent d (only (PutTable p) ∷ last)
+        change_runs = (
+          seen_named d is named,
+          tt,
+          unsent sent (changed d (PutTable p)) last (subst (λ (o : Option TableChange). Runs h sent (put_of d p o) last) (sym alters) new_runs),
+        )
 
       pub rest_runs : Runs h sent d (rest_of shape p sends)
-      rest_runs = row_runs p.row refl
+      rest_runs = go p.alters refl
+        where
+          go : (o : Option TableChange) → p.alters ≡ o → Runs h sent d (put_tasks p o last)
+          go None rows = row_runs rows p.row refl
+          go (Some change) alters = change_runs change alters
 
     -- from an idle client on
     pub plan_runs : (shape : Shape) (sent : List Request) (d : ClientDisk) (p : Plan) (sends : List Send) → AreNamed h sent (seen d) → AreNamed h sent (applied p d) → SendsAll h sent sends

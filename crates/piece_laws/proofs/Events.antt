@@ -11,6 +11,8 @@ use Rattle.row_value.specs.declared.schema.Schema.{Schema}
 use Rattle.table_model.specs.declared.line.RowPair.{RowPair}
 use Rattle.table_model.specs.declared.event.Event.{Event}
 use Rattle.table_model.specs.declared.event.Event.TheVariants as events
+use Rattle.table_model.specs.declared.table_state.TableState.{TableState}
+use Rattle.table_model.specs.declared.table_state.TableState.TheVariants as states
 use Rattle.row_value.specs.declared.schema.Scheme.{Scheme}
 use Rattle.step_tables.specs.Store.{Stored}
 use Rattle.step_tables.specs.Facts.{Answer, Refusal}
@@ -20,10 +22,10 @@ use Rattle.step_tables.specs.Sayings.{Said}
 use Rattle.step_tables.specs.Messages.{Request, Pull, TornPull, Message, Luck, table_of, SyncRequest, SyncResponse, PullRequest, PullResponse, TornRowRequest, TornRowResponse}
 use Rattle.step_tables.specs.Messages as messages
 use Rattle.step_tables.specs.StoreMoves as store
-use Rattle.step_tables.specs.StoreMoves.{StoreDisk, StoreTask, StoreMove, taken, yours_in}
+use Rattle.step_tables.specs.StoreMoves.{StoreDisk, StoreTask, StoreMove, SidePut, taken, yours_in}
 use Rattle.step_tables.specs.ClientMoves as client
 use Rattle.step_tables.specs.ClientMoves.{Slots, TableDisk, ClientDisk, Client, ClientTask, ClientMove, Shape, no_shape, client_step, is_cut_off, kept_out, slots_in, slots_of, table_at}
-use Rattle.step_tables.specs.ClientMoves.{seen, no_slots}
+use Rattle.step_tables.specs.ClientMoves.{seen, no_slots, opened_table}
 use Rattle.step_tables.proofs.Lists.{among_get}
 use Rattle.world_tables.specs.World.{World, Packet, Hosted, Moved, WorldStep, Lucks, owner_of, has_store, hosted_by, schema_at, scheme_in, chunk_in, hosted_at, client_at, is_down, still}
 use Rattle.world_tables.specs.World.{and_then, and_unless, failing}
@@ -31,9 +33,9 @@ use Rattle.world_tables.specs.World.{after_table, table_step, move_hosted, move_
 use Rattle.world_tables.specs.World.{client_starts, starts_by, client_falls}
 use Rattle.world_tables.specs.World.{client_crashes, client_follows_from, store_falls, table_follows, busy_table, busy_step, write_next, tasks_of, store_until_idle, store_crashes}
 use Rattle.world_tables.specs.World.{store_starts, crash_luck, next_write}
-use Rattle.world_tables.specs.World.{answering, answered, refused, silent, unless_down, agenda_of, with_table, made_with, declared, with_opened, open_all, opened, new_client, first_agenda}
+use Rattle.world_tables.specs.World.{answering, answered, refused, silent, unless_down, new_hosted, with_table, made_with, declared, with_opened, open_all, new_client, first_agenda, puts_beside, opens, created, dropped}
 use Rattle.world_tables.specs.World.{joined, with_link, linked}
-use Rattle.world_tables.specs.World.{is_cut, is_resolving, unless_cut, unless_kept, calls, call, call_there, listed, first_shape, other_shapes, chosen_of, client_pairs, resolve_by}
+use Rattle.world_tables.specs.World.{is_cut, is_resolving, unless_cut, unless_kept, table_of_move, is_closed, closed_answer, unless_closed, calls, call, call_there, listed, first_shape, other_shapes, chosen_of, client_pairs, resolve_by}
 use Rattle.world_tables.specs.World.{plan_size, resolve_each, resolve_all}
 use Rattle.world_tables.specs.World.{take_read, take_at, to_hosted, to_there, carried, delivered, row_read, row_shown, store_shows, chunk_names, history_lines, worked, all_worked, crashed}
 use Rattle.world_tables.specs.World.{started, step, without_node, joining}
@@ -48,7 +50,7 @@ use Rattle.piece_laws.proofs.Moves.{IsReady, Takes}
 use Rattle.piece_laws.proofs.Ready.{below_yours, ready_at, given_at}
 use Rattle.piece_laws.proofs.Worlds.{request_there, IsNamedWorld, IsTable, table_moved, known_later, pairs_later}
 use Rattle.piece_laws.proofs.Along.{stores_named, nodes_named, unless_named, moves_at, client_works_named, client_writes_named, follows_from_named, client_falls_named, client_starts_named}
-use Rattle.piece_laws.proofs.Along.{store_falls_named, write_next_named}
+use Rattle.piece_laws.proofs.Along.{places_at, store_falls_named, write_next_named}
 use Rattle.piece_laws.proofs.Along.{store_works_named, table_follows_named, store_crashes_named, store_starts_named}
 
 module _ (size : ℕ → ℕ) where
@@ -83,8 +85,15 @@ module _ (size : ℕ → ℕ) where
       by_phase None = by_link (is_cut w c && is_cut_off c shape node move)
       by_phase (Some refusal) = k
 
-      reads : (luck : Luck) → Named (world.reads w c luck (unless_kept w (kept_out (is_resolving w c) move (client_step c shape node move).answer) linked_step)).world
-      reads messages.Done = by_phase (kept_out (is_resolving w c) move (client_step c shape node move).answer)
+      kept_step : WorldStep
+      kept_step = unless_kept w (kept_out (is_resolving w c) move (client_step c shape node move).answer) linked_step
+
+      by_table : (closed : Bool) → Named (unless_closed w closed (closed_answer shape (is_cut w c) node.agenda move) kept_step).world
+      by_table true = k
+      by_table false = by_phase (kept_out (is_resolving w c) move (client_step c shape node move).answer)
+
+      reads : (luck : Luck) → Named (world.reads w c luck (unless_closed w (is_closed node (table_of_move move)) (closed_answer shape (is_cut w c) node.agenda move) kept_step)).world
+      reads messages.Done = by_table (is_closed node (table_of_move move))
       reads messages.FailedBefore = client_falls_named size c w k
       reads messages.FailedAfter = client_falls_named size c w k
 
@@ -187,26 +196,24 @@ module _ (size : ℕ → ℕ) where
             torns : (torn : TornPull) → p.message ≡ TornRowRequest torn → torn.table ≡ table
             torns torn is = sym (ap table_of is) ∙ table_is
 
-    to_hosted_named : (p : Packet) → Among w.packets p → (table : ℕ) → table_of p.message ≡ table → (lucks : List Luck) (o : Option Hosted) → Named (to_hosted w table (store.Take p.from p.message) lucks o).world
-    to_hosted_named p a table is lucks None = k
-    to_hosted_named p a table is lucks (Some hosted) = go hosted.store.agenda
+    to_hosted_named : (table : ℕ) (move : StoreMove) → Named (move_table table move w).world → (lucks : List Luck) (o : Option Hosted) → Named (to_hosted w table move lucks o).world
+    to_hosted_named table move first lucks None = k
+    to_hosted_named table move first lucks (Some hosted) = go hosted.store.agenda
       where
-        first : Named (move_table table (store.Take p.from p.message) w).world
-        first = takes_at p a table is
-
-        reads : (luck : Luck) → Named (take_read w table hosted (store.Take p.from p.message) (other_lucks lucks) luck).world
+        reads : (luck : Luck) → Named (take_read w table hosted move (other_lucks lucks) luck).world
         reads messages.FailedBefore = store_falls_named size (owner_of w table) w k
         reads messages.FailedAfter = store_falls_named size (owner_of w table) w k
-        reads messages.Done = table_follows_named size table (other_lucks lucks) (move_table table (store.Take p.from p.message) w).world first
+        reads messages.Done = table_follows_named size table (other_lucks lucks) (move_table table move w).world first
 
-        go : (o : Option (List StoreTask)) → Named (take_at w table hosted (store.Take p.from p.message) lucks o).world
+        go : (o : Option (List StoreTask)) → Named (take_at w table hosted move lucks o).world
         go None = first
         go (Some (task ∷ more)) = first
         go (Some []) = reads (first_luck lucks)
 
     carried_named : (p : Packet) → Among w.packets p → (shape : Shape) (lucks : List Luck) (to : Node) → p.to ≡ to → Named (carried w p shape lucks to).world
     carried_named p a shape lucks (nodes.Store number) is =
-        down_named w (nodes.Store number) _ k (to_hosted_named p a (table_of p.message) refl lucks (hosted_by w number (table_of p.message)))
+        down_named w (nodes.Store number) _ k
+        (to_hosted_named (table_of p.message) (store.Take p.from p.message) (takes_at p a (table_of p.message) refl) lucks (hosted_by w number (table_of p.message)))
     carried_named p a shape lucks (nodes.Gate gate) is = k
     carried_named p a shape lucks (nodes.Client c) is = go (client_at w c)
       where
@@ -217,6 +224,26 @@ module _ (size : ℕ → ℕ) where
     delivered_named : (n : ℕ) (shape : Shape) (lucks : List Luck) (o : Option Packet) → slice_get w.packets n ≡ o → Named (delivered w shape lucks o).world
     delivered_named n shape lucks None at = k
     delivered_named n shape lucks (Some p) at = carried_named p (among_get w.packets n p at) shape lucks p.to refl
+
+    -- ---- a table that is made or dropped
+
+    beside_named : (number table : ℕ) (put : SidePut) (lucks : List Luck) → Named (puts_beside w number table put lucks).world
+    beside_named number table put lucks =
+        down_named w (nodes.Store number) _ k (to_hosted_named table (store.Place put) (places_at size w table put k) lucks (hosted_by w number table))
+
+    created_named : (table : ℕ) (shape : Shape) (lucks : List Luck) (node : Node) → Named (created w table shape lucks node).world
+    created_named table shape lucks (nodes.Store number) = beside_named number table (store.PutState states.Live) lucks
+    created_named table shape lucks (nodes.Client c) = go (schema_at w table) refl
+      where
+        go : (o : Option Schema) → schema_at w table ≡ o → Named (opens w c table shape lucks o).world
+        go None at = k
+        go (Some schema) at = call_named w c (client.Alter table (client.Opens schema)) shape lucks k (λ node is. sym (k.sized table schema at)) (client_at w c)
+    created_named table shape lucks (nodes.Gate gate) = k
+
+    dropped_named : (table : ℕ) (shape : Shape) (lucks : List Luck) (node : Node) → Named (dropped w table shape lucks node).world
+    dropped_named table shape lucks (nodes.Store number) = beside_named number table (store.PutState states.Dropped) lucks
+    dropped_named table shape lucks (nodes.Client c) = call_named w c (client.Alter table client.Closes) shape lucks k (λ node is. tt) (client_at w c)
+    dropped_named table shape lucks (nodes.Gate gate) = k
 
     -- ---- what the Store shows
 
@@ -280,8 +307,8 @@ module _ (size : ℕ → ℕ) where
 
     -- ---- declarations
 
-    with_table_named : (table : ℕ) (schema : Schema) (made : Bool) → hosted_at w table ≡ None → size table ≡ schema.chunk → Named (with_table w table schema made)
-    with_table_named table schema made none fits = record {
+    with_table_named : (table : ℕ) (schema : Schema) (state : TableState) (made : Bool) → hosted_at w table ≡ None → size table ≡ schema.chunk → Named (with_table w table schema state made)
+    with_table_named table schema state made none fits = record {
       sized = λ q x at. ⊎_elim
           (λ e. let both : Some schema ≡ Some x = sym e.1 ∙ at in let same : schema ≡ x = cc in ap size e.0 ∙ (fits ∙ ap (λ (y : Schema). y.chunk) same))
           (λ e. k.sized q x (sym e.1 ∙ at)) (look_cases w.schemas table schema q);
@@ -299,7 +326,7 @@ module _ (size : ℕ → ℕ) where
     }
       where
         new : Hosted
-        new = record { store = record { disk = record { items = []; pending = None; left = [] }; agenda = agenda_of made }; history = []; made = made }
+        new = new_hosted state made
 
         later : ℕ → List Stored
         later q = items_in (lookup (is_at (nat_cmp q)) (insert_entry nat_cmp w.tables table new))
@@ -313,19 +340,19 @@ module _ (size : ℕ → ℕ) where
         new_table : (q : ℕ) → IsTable size (asked_in w) q new
         new_table q = at made
           where
-            at : (x : Bool) → IsTable size (asked_in w) q (record { store = record { disk = record { items = []; pending = None; left = [] }; agenda = agenda_of x }; history = []; made = x })
+            at : (x : Bool) → IsTable size (asked_in w) q (new_hosted state x)
             at true = record { linked = nothing_linked (size q); grows = tt; sends = tt; unmade = λ f. absurd cc }
             at false = record { linked = nothing_linked (size q); grows = tt; sends = tt; unmade = λ f. (refl, refl) }
 
-    declared_named : (table : ℕ) (schema : Schema) (luck : Luck) (o : Option Hosted) → hosted_at w table ≡ o → (hosted_at w table ≡ None → size table ≡ schema.chunk)
-        → Named (declared w table schema luck o)
-    declared_named table schema luck (Some hosted) at fits = k
-    declared_named table schema luck None at fits = go luck
+    declared_named : (table : ℕ) (schema : Schema) (state : TableState) (luck : Luck) (o : Option Hosted) → hosted_at w table ≡ o → (hosted_at w table ≡ None → size table ≡ schema.chunk)
+        → Named (declared w table schema state luck o)
+    declared_named table schema state luck (Some hosted) at fits = k
+    declared_named table schema state luck None at fits = go luck
       where
-        go : (l : Luck) → Named (made_with w table schema l)
-        go messages.Done = with_table_named table schema true at (fits at)
-        go messages.FailedBefore = with_table_named table schema false at (fits at)
-        go messages.FailedAfter = with_table_named table schema false at (fits at)
+        go : (l : Luck) → Named (made_with w table schema state l)
+        go messages.Done = with_table_named table schema state true at (fits at)
+        go messages.FailedBefore = with_table_named table schema state false at (fits at)
+        go messages.FailedAfter = with_table_named table schema state false at (fits at)
 
     -- ---- a client that joins
 
@@ -335,9 +362,9 @@ module _ (size : ℕ → ℕ) where
     one_opened : (some : List (ℕ × TableDisk)) (table : ℕ) (o : Option Schema) → schema_at w table ≡ o → AreOpened some → AreOpened (with_opened some table o)
     one_opened some table None at all = all
     one_opened some table (Some schema) at all = λ q x is. ⊎_elim
-        (λ e. let both : Some (opened schema) ≡ Some x = sym e.1 ∙ is in let same : opened schema ≡ x = cc in
-        subst (λ (y : TableDisk). (schema_at w q ≡ Some y.schema) × (y.rows ≡ [])) same (subst (λ (t : ℕ). (schema_at w t ≡ Some schema) × ((opened schema).rows ≡ [])) (sym e.0) (at, refl)))
-        (λ e. all q x (sym e.1 ∙ is)) (look_cases some table (opened schema) q)
+        (λ e. let both : Some (opened_table schema) ≡ Some x = sym e.1 ∙ is in let same : opened_table schema ≡ x = cc in
+        subst (λ (y : TableDisk). (schema_at w q ≡ Some y.schema) × (y.rows ≡ [])) same (subst (λ (t : ℕ). (schema_at w t ≡ Some schema) × ((opened_table schema).rows ≡ [])) (sym e.0) (at, refl)))
+        (λ e. all q x (sym e.1 ∙ is)) (look_cases some table (opened_table schema) q)
 
     all_opened : (some : List (ℕ × TableDisk)) (tables : List ℕ) → AreOpened some → AreOpened (open_all w some tables)
     all_opened some [] all = all
@@ -391,6 +418,7 @@ module _ (size : ℕ → ℕ) where
 
     abbrev pub FitsFirst : Event → Type 0
     FitsFirst (events.Table table schema) = hosted_at w table ≡ None → size table ≡ schema.chunk
+    FitsFirst (events.Draft table schema) = hosted_at w table ≡ None → size table ≡ schema.chunk
     FitsFirst other = Unit {0}
 
     quiet_takes : (c : ℕ) (node : Client) → client_at w c ≡ Some node → node.agenda ≡ Some [] → IsReady c (asked_in w) node.disk
@@ -399,11 +427,14 @@ module _ (size : ℕ → ℕ) where
     pub step_named : (event : Event) (lucks : Lucks) → FitsFirst event → Named (step w event lucks).world
     step_named (events.Store number) lucks f = stores_named size w (number ∷ w.stores) (joining number w.downs) k
     step_named (events.Gate number) lucks f = k
-    step_named (events.Table table schema) lucks f = declared_named table schema (first_luck lucks.calls) (hosted_at w table) refl f
+    step_named (events.Table table schema) lucks f = declared_named table schema states.Live (first_luck lucks.calls) (hosted_at w table) refl f
+    step_named (events.Draft table schema) lucks f = declared_named table schema states.Draft (first_luck lucks.calls) (hosted_at w table) refl f
     step_named (events.Client c gate tables) lucks f = joined_named c tables (first_luck lucks.calls) (client_at w c)
     step_named (events.Write c table row x) lucks f = call_named w c (client.Write table row x) lucks.shape lucks.calls k (quiet_takes c) (client_at w c)
     step_named (events.Edit c table row x) lucks f = call_named w c (client.Change table row x) lucks.shape lucks.calls k (quiet_takes c) (client_at w c)
     step_named (events.Link c up) lucks f = linked_named c up (client_at w c)
+    step_named (events.Create node table) lucks f = created_named table lucks.shape lucks.calls node
+    step_named (events.Drop node table) lucks f = dropped_named table lucks.shape lucks.calls node
     step_named (events.Show c table row) lucks f = call_named w c (client.Show table row) lucks.shape lucks.calls k (λ node at. tt) (client_at w c)
     step_named (events.Sum c table row) lucks f = call_named w c (client.Sum table row) lucks.shape lucks.calls k (λ node at. tt) (client_at w c)
     step_named (events.Sync c table) lucks f = call_named w c (client.Sync table) lucks.shape lucks.calls k (quiet_takes c) (client_at w c)

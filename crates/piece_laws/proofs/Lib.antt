@@ -2,6 +2,7 @@ pub mod Members
 pub mod Linked
 pub mod Gone
 pub mod Tables
+pub mod Altered
 pub mod Outs
 pub mod Disks
 pub mod Rows

@@ -27,7 +27,7 @@ use Rattle.step_tables.specs.Chunks.{is_named}
 use Rattle.step_tables.specs.Messages as messages
 use Rattle.step_tables.specs.ClientMoves as client
 use Rattle.step_tables.specs.ClientMoves.{Slots, TableDisk, RowPut, Plan, ClientDisk, ClientTask, Client, ClientMove, ClientStep, Shape, Placed, RowOut, slots_at, slots_in, slots_of, table_at, seen, applied, planned_in, changed, quiet, begun, planning, keeps, rest_of, opening, ending}
-use Rattle.step_tables.specs.ClientMoves.{request_for, resent, spelled, strong_out, out_of, whole_out, shadow_at, shadow_of, client_step}
+use Rattle.step_tables.specs.ClientMoves.{TableChange, request_for, resent, spelled, strong_out, out_of, whole_out, shadow_at, shadow_of, client_step}
 use Rattle.step_tables.proofs.Lists.{among_left, among_either}
 use Rattle.client_laws.specs.Part.{Rising}
 use Rattle.client_laws.specs.Spells.{Spells}
@@ -37,7 +37,7 @@ use Rattle.client_laws.proofs.Sends.{rows_found, IsFirst, first_is}
 use Rattle.piece_laws.specs.Pieces.{KeepsKnown, KeepsNone, IsDead, IsOfRequest, IsNeeded, IsHeader, HasNames, IsSpelledOut, SlotsNamed}
 use Rattle.piece_laws.proofs.Tables.{of_more}
 use Rattle.piece_laws.proofs.Outs.{shadow_apart, spelled_known, whole_none, none_known, dead_keeps, header_names, accepted_names}
-use Rattle.piece_laws.proofs.Disks.{AreNamed, SendsAll, Runs, IsNamedAt, IsNamedClient, requests_in, now_named, named_fewer, keeps_runs, ending_runs, rest_runs, plan_runs}
+use Rattle.piece_laws.proofs.Disks.{HasSize, AreNamed, altered_named, SendsAll, Runs, IsNamedAt, IsNamedClient, requests_in, now_named, named_fewer, keeps_runs, ending_runs, rest_runs, plan_runs}
 use Rattle.piece_laws.proofs.Rows.{plan, plan_named, out_behind, request_sent, named_sent, new_out, all_sent, of_waiting}
 
 -- what a client that sends knows of its rows: they rise, and what may be sent next has a number that was never sent
@@ -637,6 +637,15 @@ module _ (size : ℕ → ℕ) (c : ℕ) (h : ℕ → List Stored) where
     conflicts_step agenda k None = still agenda _ k
     conflicts_step agenda k (Some o) = still agenda _ k
 
+    alter_step : (agenda : List ClientTask) → Runs size c h sent d agenda → (table : ℕ) (change : TableChange) → HasSize (size table) change
+        → IsStep sent (client.alter_in c shape d agenda table change)
+    alter_step (task ∷ more) k table change has = still (task ∷ more) _ k
+    alter_step [] k table change has = go (client.may_alter change (table_at (seen d) table))
+      where
+        go : (b : Bool) → IsStep sent (if b then begun shape d facts.Done (client.alter_plan c d table change) [] else client.ignored d)
+        go true = plan_step shape sent d k facts.Done (client.alter_plan c d table change) [] refl tt (altered_named size c h sent d table change has (named shape sent d k))
+        go false = still [] _ k
+
     take_step : (agenda : Option (List ClientTask)) (m : Message) → IsNamedAt size c h sent d agenda → IsGiven sent m → IsStep sent (client.take_step c shape d agenda m)
     take_step None m k g = quiet_step sent d None _ k
     take_step (Some (task ∷ more)) m k g = still (task ∷ more) _ k
@@ -652,6 +661,7 @@ module _ (size : ℕ → ℕ) (c : ℕ) (h : ℕ → List Stored) where
   Takes sent s (client.Write table row x) = s.agenda ≡ Some [] → IsReady c sent s.disk
   Takes sent s (client.Change table row edit) = s.agenda ≡ Some [] → IsReady c sent s.disk
   Takes sent s (client.Sync table) = s.agenda ≡ Some [] → IsReady c sent s.disk
+  Takes sent s (client.Alter table change) = HasSize (size table) change
   Takes sent s (client.Take m) = IsGiven sent m
   Takes sent s other = Unit {0}
 
@@ -676,6 +686,7 @@ module _ (size : ℕ → ℕ) (c : ℕ) (h : ℕ → List Stored) where
       by_agenda None is n (client.EndCr table) t = quiet_step sent s.disk None _ n
       by_agenda None is n (client.Resolve table row version choice) t = quiet_step sent s.disk None _ n
       by_agenda None is n (client.ResolveAll table by) t = quiet_step sent s.disk None _ n
+      by_agenda None is n (client.Alter table change) t = quiet_step sent s.disk None _ n
       by_agenda (Some tasks) is n (client.Write table row x) t = write_step shape sent s.disk items tasks n (λ e. t (ap (λ (l : List ClientTask). Some l) e)) table row x (table_at (seen s.disk) table) refl
       by_agenda (Some tasks) is n (client.Change table row edit) t = edit_step shape sent s.disk items tasks n (λ e. t (ap (λ (l : List ClientTask). Some l) e)) table row edit (table_at (seen s.disk) table) refl
       by_agenda (Some tasks) is n (client.Show table row) t = quiet_step sent s.disk (Some tasks) _ n
@@ -687,3 +698,4 @@ module _ (size : ℕ → ℕ) (c : ℕ) (h : ℕ → List Stored) where
       by_agenda (Some tasks) is n (client.EndCr table) t = phase_step shape sent s.disk items tasks n (table_at (seen s.disk) table)
       by_agenda (Some tasks) is n (client.Resolve table row version choice) t = resolve_in_step shape sent s.disk items tasks n table row version choice (table_at (seen s.disk) table) refl
       by_agenda (Some tasks) is n (client.ResolveAll table by) t = all_step shape sent s.disk items tasks n by (table_at (seen s.disk) table)
+      by_agenda (Some tasks) is n (client.Alter table change) t = alter_step shape sent s.disk items tasks n table change t

@@ -10,13 +10,13 @@ use Rattle.step_tables.specs.Members.{Among}
 use Rattle.step_tables.specs.Messages.{Request, Send}
 use Rattle.step_tables.specs.ClientMoves.{Slots, TableDisk, RowPut, Plan, ClientDisk, slots_at, slots_in, slots_of, table_at, put_row, applied, request_for, resent}
 use Rattle.step_tables.proofs.Lists.{among_none, among_cons, among_here, among_next, among_either, among_cases}
-use Rattle.client_laws.proofs.Disks.{opened_by, applied_at, put_row_slots}
+use Rattle.client_laws.proofs.Disks.{opened_by, rows_applied_at, put_row_slots}
 use Rattle.piece_laws.specs.Pieces.{request_in, KeepsKnown, IsOfRequest, IsOfOut, IsSpelledOut, SlotsNamed}
 use Rattle.piece_laws.proofs.Disks.{AreNamed, IsSent, SendsAll, requests_in}
 
 module _ (table : ℕ) (last : ℕ) (row : Option RowPut) (position : Option ℕ) (facts : List ClientFact) where
   abbrev pub plan : Plan
-  plan = record { last = last; table = table; row = row; position = position; facts = facts }
+  plan = record { last = last; table = table; row = row; position = position; alters = None; facts = facts }
 
   opened_slots : (o : TableDisk) (r : List ℕ) → ((x : RowPut) × (row ≡ Some x) × (r ≡ x.row) × (slots_at (opened_by plan o) r ≡ x.slots)) ⊎ (slots_at (opened_by plan o) r ≡ slots_at o r)
   opened_slots o r = go row refl position refl
@@ -29,20 +29,20 @@ module _ (table : ℕ) (last : ℕ) (row : Option RowPut) (position : Option ℕ
           → ((x : RowPut) × (row ≡ Some x) × (r ≡ x.row) × (slots_at (opened_by plan o) r ≡ x.slots)) ⊎ (slots_at (opened_by plan o) r ≡ slots_at o r)
       go None is None at = inr (ap (λ (p : Plan). slots_at (opened_by p o) r) (both is at))
         where
-          both : row ≡ None → position ≡ None → plan ≡ record { last = last; table = table; row = None; position = None; facts = facts }
-          both e f = ap (λ (w : Option RowPut). record { last = last; table = table; row = w; position = position; facts = facts }) e
-              ∙ ap (λ (n : Option ℕ). record { last = last; table = table; row = None; position = n; facts = facts }) f
-      go None is (Some n) at = inr (ap (λ (w : Option RowPut). slots_at (opened_by (record { last = last; table = table; row = w; position = position; facts = facts }) o) r) is
-          ∙ ap (λ (m : Option ℕ). slots_at (opened_by (record { last = last; table = table; row = None; position = m; facts = facts }) o) r) at)
-      go (Some x) is None at = put x is (ap (λ (w : Option RowPut). slots_at (opened_by (record { last = last; table = table; row = w; position = position; facts = facts }) o) r) is
-          ∙ ap (λ (m : Option ℕ). slots_at (opened_by (record { last = last; table = table; row = Some x; position = m; facts = facts }) o) r) at)
-      go (Some x) is (Some n) at = put x is (ap (λ (w : Option RowPut). slots_at (opened_by (record { last = last; table = table; row = w; position = position; facts = facts }) o) r) is
-          ∙ ap (λ (m : Option ℕ). slots_at (opened_by (record { last = last; table = table; row = Some x; position = m; facts = facts }) o) r) at)
+          both : row ≡ None → position ≡ None → plan ≡ record { last = last; table = table; row = None; position = None; alters = None; facts = facts }
+          both e f = ap (λ (w : Option RowPut). record { last = last; table = table; row = w; position = position; alters = None; facts = facts }) e
+              ∙ ap (λ (n : Option ℕ). record { last = last; table = table; row = None; position = n; alters = None; facts = facts }) f
+      go None is (Some n) at = inr (ap (λ (w : Option RowPut). slots_at (opened_by (record { last = last; table = table; row = w; position = position; alters = None; facts = facts }) o) r) is
+          ∙ ap (λ (m : Option ℕ). slots_at (opened_by (record { last = last; table = table; row = None; position = m; alters = None; facts = facts }) o) r) at)
+      go (Some x) is None at = put x is (ap (λ (w : Option RowPut). slots_at (opened_by (record { last = last; table = table; row = w; position = position; alters = None; facts = facts }) o) r) is
+          ∙ ap (λ (m : Option ℕ). slots_at (opened_by (record { last = last; table = table; row = Some x; position = m; alters = None; facts = facts }) o) r) at)
+      go (Some x) is (Some n) at = put x is (ap (λ (w : Option RowPut). slots_at (opened_by (record { last = last; table = table; row = w; position = position; alters = None; facts = facts }) o) r) is
+          ∙ ap (λ (m : Option ℕ). slots_at (opened_by (record { last = last; table = table; row = Some x; position = m; alters = None; facts = facts }) o) r) at)
 
   opened_schema : (o : TableDisk) → (opened_by plan o).schema ≡ o.schema
   opened_schema o = go row position
     where
-      go : (w : Option RowPut) (n : Option ℕ) → (opened_by (record { last = last; table = table; row = w; position = n; facts = facts }) o).schema ≡ o.schema
+      go : (w : Option RowPut) (n : Option ℕ) → (opened_by (record { last = last; table = table; row = w; position = n; alters = None; facts = facts }) o).schema ≡ o.schema
       go None None = refl
       go None (Some n) = refl
       go (Some x) None = refl
@@ -55,7 +55,7 @@ module _ (table : ℕ) (last : ℕ) (row : Option RowPut) (position : Option ℕ
   behind d t r = go (table == t) refl (table_at d table) refl
     where
       by_test : (b : Bool) → (table == t) ≡ b → slots_of (applied plan d) t r ≡ slots_in (if b then option_map (opened_by plan) (table_at d table) else table_at d t) r
-      by_test b is = ap (λ (m : Option TableDisk). slots_in m r) (applied_at plan d t ∙ ap (λ (x : Bool). if x then option_map (opened_by plan) (table_at d table) else table_at d t) is)
+      by_test b is = ap (λ (m : Option TableDisk). slots_in m r) (rows_applied_at plan d t ∙ ap (λ (x : Bool). if x then option_map (opened_by plan) (table_at d table) else table_at d t) is)
 
       go : (b : Bool) → (table == t) ≡ b → (m : Option TableDisk) → table_at d table ≡ m → IsBehind d t r
       go false is m at = inr (by_test false is)
@@ -94,7 +94,7 @@ module _ (table : ℕ) (last : ℕ) (row : Option RowPut) (position : Option ℕ
     sized_behind t opened at = go (table == t) refl (table_at d table) refl
       where
         by_test : (b : Bool) → (table == t) ≡ b → (if b then option_map (opened_by plan) (table_at d table) else table_at d t) ≡ Some opened
-        by_test b is = sym (ap (λ (x : Bool). if x then option_map (opened_by plan) (table_at d table) else table_at d t) is) ∙ (sym (applied_at plan d t) ∙ at)
+        by_test b is = sym (ap (λ (x : Bool). if x then option_map (opened_by plan) (table_at d table) else table_at d t) is) ∙ (sym (rows_applied_at plan d t) ∙ at)
 
         go : (b : Bool) → (table == t) ≡ b → (m : Option TableDisk) → table_at d table ≡ m → opened.schema.chunk ≡ size t
         go false is m found = k.sized t opened (by_test false is)
@@ -114,16 +114,16 @@ module _ (table : ℕ) (last : ℕ) (row : Option RowPut) (position : Option ℕ
 
   -- what waits in the row of the plan
   pub out_behind : (d : ClientDisk) (o : TableDisk) → table_at d table ≡ Some o → (x : RowPut) → row ≡ Some x → slots_of (applied plan d) table x.row ≡ x.slots
-  out_behind d o at x is = ap (λ (m : Option TableDisk). slots_in m x.row) (applied_at plan d table ∙ by_test (table == table) refl) ∙ here (opened_put x is)
+  out_behind d o at x is = ap (λ (m : Option TableDisk). slots_in m x.row) (rows_applied_at plan d table ∙ by_test (table == table) refl) ∙ here (opened_put x is)
     where
       by_test : (b : Bool) → (table == table) ≡ b → (if b then option_map (opened_by plan) (table_at d table) else table_at d table) ≡ Some (opened_by plan o)
       by_test true same = ap (option_map (opened_by plan)) at
       by_test false same = absurd (grind (arith, nat_tests, same))
 
       opened_put : (y : RowPut) → row ≡ Some y → slots_at (opened_by plan o) x.row ≡ slots_at (put_row y o) x.row
-      opened_put y e = ap (λ (w : Option RowPut). slots_at (opened_by (record { last = last; table = table; row = w; position = position; facts = facts }) o) x.row) e ∙ go position
+      opened_put y e = ap (λ (w : Option RowPut). slots_at (opened_by (record { last = last; table = table; row = w; position = position; alters = None; facts = facts }) o) x.row) e ∙ go position
         where
-          go : (n : Option ℕ) → slots_at (opened_by (record { last = last; table = table; row = Some y; position = n; facts = facts }) o) x.row ≡ slots_at (put_row y o) x.row
+          go : (n : Option ℕ) → slots_at (opened_by (record { last = last; table = table; row = Some y; position = n; alters = None; facts = facts }) o) x.row ≡ slots_at (put_row y o) x.row
           go None = refl
           go (Some n) = refl
 

@@ -105,6 +105,7 @@ module _ (size : ℕ → ℕ) where
   AwaitsSizes w es = (table : ℕ) → hosted_at w table ≡ None → size table ≡ sizes_in es table
 
   first_fits : (w : World) (event : Event) (es : List Event) → AwaitsSizes w (event ∷ es) → (g : ℕ → Scheme) (s : Said) (kept : Kept g w s) (k : IsNamedWorld size w) → FitsFirst size g w s kept k event
+  first_fits w (events.Draft table schema) es awaits g s kept k = λ none. awaits table none ∙ ap chunk_in (first_schema table schema es)
   first_fits w (events.Table table schema) es awaits g s kept k = λ none. awaits table none ∙ ap chunk_in (first_schema table schema es)
   first_fits w other es awaits g s kept k = tt
 

@@ -15,8 +15,8 @@ use Rattle.step_tables.specs.Messages.{Request, Response, Pull, Header, Pair, Ou
 use Rattle.step_tables.specs.Messages.{TornPull, TornRowRequest, TornRowResponse}
 use Rattle.step_tables.specs.Messages as messages
 use Rattle.step_tables.specs.Chunks.{rising, new_names, old_names, is_spelled, is_of_each, are_counted, are_apart, kept_in, flat, objects_of}
-use Rattle.step_tables.specs.StoreMoves.{StoreDisk, StoreTask, StoreChange, OpenChunks, OpenRows, OpenLog, Open, PutChunk, Put, DropChunk, Close, changed, StoreStep}
-use Rattle.step_tables.specs.StoreMoves.{quiet, worked, crashed, item_at, drops, recovering, recovered, recover, started, takes, outdated, unaccepted, responded, sending, item_for, puts}
+use Rattle.step_tables.specs.StoreMoves.{StoreDisk, StoreTask, StoreChange, OpenChunks, OpenRows, OpenLog, Open, PutChunk, Put, DropChunk, Close, PutBeside, PutState, PutSub, SidePut, changed, StoreStep}
+use Rattle.step_tables.specs.StoreMoves.{quiet, beside_task, placed, worked, crashed, item_at, drops, recovering, recovered, recover, started, takes, outdated, unaccepted, responded, sending, item_for, puts}
 use Rattle.step_tables.specs.StoreMoves.{accepting, version_of, keeps_there, judged, decided, asked, taken, yours_in, header_for, answered, torn_answered}
 use Rattle.step_tables.proofs.Lists.{among_here, among_next, among_left, among_last}
 use Rattle.piece_laws.specs.Pieces.{IsDead, KeepsKnown, IsOfRequest, IsHeader}
@@ -122,6 +122,7 @@ grows_more size sent more table h (task ∷ tasks) g = (by_change task.change g.
     by_change (Put item named old) p = put_more size sent more table h item p
     by_change (DropChunk name) p = p
     by_change Close p = p
+    by_change (PutBeside put) p = p
 
 behind_is : (d : StoreDisk) (change : StoreChange) → (changed d change).items ≡ items_behind d.items change
 behind_is d OpenChunks = refl
@@ -132,6 +133,8 @@ behind_is d (PutChunk name) = refl
 behind_is d (Put item named old) = refl
 behind_is d (DropChunk name) = refl
 behind_is d Close = refl
+behind_is d (PutBeside (PutState state)) = refl
+behind_is d (PutBeside (PutSub client terms)) = refl
 
 module _ (size : ℕ) (sent : List Request) (table : ℕ) where
   became_by : (h : List Stored) (change : StoreChange) → PutsWell size sent table h change → Became size sent table h (items_behind h change)
@@ -143,6 +146,7 @@ module _ (size : ℕ) (sent : List Request) (table : ℕ) where
   became_by h (Put item named old) p = inr (item, p, refl)
   became_by h (DropChunk name) p = inl refl
   became_by h Close p = inl refl
+  became_by h (PutBeside put) p = inl refl
 
   changed_by : (d : StoreDisk) (change : StoreChange) → PutsWell size sent table d.items change → Became size sent table d.items (changed d change).items
   changed_by d change p = subst (Became size sent table d.items) (sym (behind_is d change)) (became_by d.items change p)
@@ -179,6 +183,14 @@ module _ (size : ℕ) (sent : List Request) (table : ℕ) where
   crashed_move d (Some (task ∷ more)) messages.Done g = down_move d (changed d task.change) _ (changed_by d task.change g.0)
   crashed_move d (Some (task ∷ more)) messages.FailedBefore g = down_move d d _ (inl refl)
   crashed_move d (Some (task ∷ more)) messages.FailedAfter g = down_move d (changed d task.change) _ (changed_by d task.change g.0)
+
+  -- ---- what is put beside the rows
+
+  pub placed_move : (d : StoreDisk) (agenda : Option (List StoreTask)) (put : SidePut) → GrowsBy size sent table d.items agenda → SendsBy size sent table agenda
+      → IsMove size sent table d.items (placed table d agenda put)
+  placed_move d None put g s = down_move d d _ (inl refl)
+  placed_move d (Some (task ∷ more)) put g s = stays d (Some (task ∷ more)) _ g s
+  placed_move d (Some []) put g s = stays d (Some (beside_task table put ∷ [])) facts.Done (tt, tt) ((λ h. tt), tt)
 
   -- ---- starts
 

@@ -167,8 +167,8 @@ abbrev pub has_kept : ℕ → List (List Named) → Content → List (List Piece
 has_kept size held content pieces =
     list_all (is_there (flat held)) (flat (each_chunk size pieces (objects_of content)))
 
--- ---- a content by pieces: a chunk is kept where what was read last has the same bytes at its place and the Store's name
--- is known
+-- ---- a content by pieces: a chunk is kept where what was read last has the same bytes at its place and the Store's
+-- name is known
 
 abbrev pub kept_as : List (Option ChunkName × List ℕ) → List ℕ → Option ChunkName
 kept_as [] chunk = None

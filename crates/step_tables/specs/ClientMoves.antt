@@ -50,23 +50,35 @@ pub record Slots : Type 0 where
   pub out : Option InFlight
   pub conflict : Option Shadow
 
--- an opened table: the rows in the order of their ids
+-- a table that was opened: the rows in the order of their ids, and whether it was closed since. What is done to a
+-- closed table isn't said here; the world above refuses it
 pub record TableDisk : Type 0 where
   pub schema : Schema
   pub position : ℕ
   pub rows : List (List ℕ × Slots)
+  pub closed : Bool
+
+-- a table that is opened just now
+abbrev pub opened_table : Schema → TableDisk
+opened_table schema = record { schema = schema; position = 0; rows = []; closed = false }
+
+-- a table is opened, or closed for good
+pub data TableChange : Type 0 where
+  Opens : (schema : Schema) → TableChange
+  Closes : TableChange
 
 pub record RowPut : Type 0 where
   pub row : List ℕ
   pub slots : Slots
 
 -- a change that is carried out whole: the client's last number, a row of a table, the table's position, and what is
--- told
+-- told; or a table is opened or closed, and no row and no position changes
 pub record Plan : Type 0 where
   pub last : ℕ
   pub table : ℕ
   pub row : Option RowPut
   pub position : Option ℕ
+  pub alters : Option TableChange
   pub facts : List ClientFact
 
 -- what the devices stand for: the number of the client's last write, the opened tables by their numbers, and the plan
@@ -92,7 +104,8 @@ pub record ClientTask : Type 0 where
 
 -- The device writes of a plan or a start beside those that change what the devices stand for, by their names, before
 -- the plan's and behind them; the number of the plan, or of the one at work; and the row from the Store whose plan was
--- cut short before its commit, with its table. A client names its chunks itself, and how many there are isn't said here.
+-- cut short before its commit, with its table. A client names its chunks itself, and how many there are isn't said
+-- here.
 pub record Shape : Type 0 where
   pub plan : ℕ
   pub before : List Step
@@ -119,6 +132,7 @@ pub data ClientMove : Type 0 where
   EndCr : (table : ℕ) → ClientMove
   Resolve : (table : ℕ) → (row : List ℕ) → (seen : ℕ) → (choice : Choice) → ClientMove
   ResolveAll : (table : ℕ) → (by : Stored) → ClientMove
+  Alter : (table : ℕ) → (change : TableChange) → ClientMove
   Take : (message : Message) → ClientMove
   Work : (luck : Luck) → ClientMove
   Crash : (luck : Luck) → ClientMove
@@ -193,9 +207,29 @@ abbrev pub table_put : ClientDisk → ℕ → Option ℕ → ClientDisk
 table_put d table None = d
 table_put d table (Some position) = with_table d table (table_at d table) (put_position position)
 
+-- a table that is there already stays as it is
+abbrev pub open_table : ClientDisk → ℕ → Schema → Option TableDisk → ClientDisk
+open_table d number schema None = record d { tables = insert_entry nat_cmp d.tables number (opened_table schema) }
+open_table d number schema (Some table) = d
+
+abbrev pub close_table : TableDisk → TableDisk
+close_table table = record table { closed = true }
+
+abbrev pub altered : ClientDisk → ℕ → TableChange → ClientDisk
+altered d number (Opens schema) = open_table d number schema (table_at d number)
+altered d number Closes = with_table d number (table_at d number) close_table
+
+-- the devices behind a plan of a row and a position
+abbrev pub rows_applied : Plan → ClientDisk → ClientDisk
+rows_applied p d = table_put (row_put d p.last p.table p.row) p.table p.position
+
+abbrev pub applied_by : Plan → ClientDisk → Option TableChange → ClientDisk
+applied_by p d None = rows_applied p d
+applied_by p d (Some change) = altered d p.table change
+
 -- the devices behind a plan
 abbrev pub applied : Plan → ClientDisk → ClientDisk
-applied p d = table_put (row_put d p.last p.table p.row) p.table p.position
+applied p d = applied_by p d p.alters
 
 abbrev pub planned_in : ClientDisk → Option Plan → ClientDisk
 planned_in d None = d
@@ -207,10 +241,14 @@ seen d = planned_in d d.plan
 
 -- ---- a device write
 
+abbrev pub put_of : ClientDisk → Plan → Option TableChange → ClientDisk
+put_of d p None = table_put d p.table p.position
+put_of d p (Some change) = altered d p.table change
+
 abbrev pub changed : ClientDisk → ClientChange → ClientDisk
 changed d (Commit p) = record d { plan = Some p }
 changed d (PutRow p) = row_put d p.last p.table p.row
-changed d (PutTable p) = table_put d p.table p.position
+changed d (PutTable p) = put_of d p p.alters
 changed d Finish = record d { plan = None }
 changed d (Keep step) = d
 
@@ -271,12 +309,15 @@ table_task p (Some position) = only (PutTable p) ∷ []
 abbrev pub keeps : List Step → List ClientTask
 keeps some = map (λ (step : Step). only (Keep step)) some
 
+-- the puts of a plan: of a row and a position, or of a table that is opened or closed
+abbrev pub put_tasks : Plan → Option TableChange → List ClientTask → List ClientTask
+put_tasks p None more = row_task p p.row ++ (table_task p p.position ++ more)
+put_tasks p (Some change) more = only (PutTable p) ∷ more
+
 -- behind the commit
 abbrev pub rest_of : Shape → Plan → List Send → List ClientTask
 rest_of shape p sends =
-    row_task p p.row
-    ++ (table_task p p.position
-    ++ (keeps shape.after ++ record { change = Finish; facts = []; sends = sends } ∷ []))
+    put_tasks p p.alters (keeps shape.after ++ record { change = Finish; facts = []; sends = sends } ∷ [])
 
 abbrev pub planning : Shape → Plan → List Send → List ClientTask
 planning shape p sends =
@@ -293,6 +334,7 @@ slots_plan d table row slots some =
       table = table;
       row = Some (record { row = row; slots = slots });
       position = None;
+      alters = None;
       facts = some;
     }
 
@@ -855,6 +897,7 @@ position_plan c d table position =
       table = table;
       row = None;
       position = Some position;
+      alters = None;
       facts = facts.Position c table position ∷ [];
     }
 
@@ -921,6 +964,39 @@ take_step c shape d (Some []) (PullResponse pulled) = pulled_in c shape d pulled
 take_step c shape d (Some []) (TornRowRequest torn) = ignored d
 take_step c shape d (Some []) (TornRowResponse answer) = torn_in c shape d answer (table_at (seen d) answer.table)
 
+-- ---- a table that isn't open yet is opened, and one that is is closed for good
+
+abbrev pub told_of : ℕ → ℕ → TableChange → ClientFact
+told_of c table (Opens schema) = facts.Opened c table
+told_of c table Closes = facts.Dropped c table
+
+abbrev pub alter_plan : ℕ → ClientDisk → ℕ → TableChange → Plan
+alter_plan c d table change = record {
+  last = d.last;
+  table = table;
+  row = None;
+  position = None;
+  alters = Some change;
+  facts = told_of c table change ∷ [];
+}
+
+-- whether a table would be another one behind the change
+abbrev pub may_alter : TableChange → Option TableDisk → Bool
+may_alter (Opens schema) None = true
+may_alter (Opens schema) (Some table) = false
+may_alter Closes None = false
+may_alter Closes (Some table) = not table.closed
+
+abbrev pub alter_in : ℕ → Shape → ClientDisk → List ClientTask → ℕ → TableChange → ClientStep
+alter_in c shape d (task ∷ more) table change = quiet d (Some (task ∷ more)) (facts.Refuses (facts.Busy shape.plan))
+alter_in c shape d [] table change = if may_alter change (table_at (seen d) table)
+    then begun shape d facts.Done (alter_plan c d table change) []
+    else ignored d
+
+abbrev pub alter_step : ℕ → Shape → ClientDisk → Option (List ClientTask) → ℕ → TableChange → ClientStep
+alter_step c shape d None table change = down d
+alter_step c shape d (Some agenda) table change = alter_in c shape d agenda table change
+
 -- what a move makes of a client of this number, where its devices are written so beside
 abbrev pub client_step : ℕ → Shape → Client → ClientMove → ClientStep
 client_step c shape s (Write table row content) = write_step c shape s.disk s.agenda table row content
@@ -935,6 +1011,7 @@ client_step c shape s (EndCr table) = phase_step s.disk s.agenda table
 client_step c shape s (Resolve table row version choice) =
     resolve_step c shape s.disk s.agenda table row version choice
 client_step c shape s (ResolveAll table by) = all_step shape s.disk s.agenda table by
+client_step c shape s (Alter table change) = alter_step c shape s.disk s.agenda table change
 client_step c shape s (Take message) = take_step c shape s.disk s.agenda message
 client_step c shape s (Work luck) = worked s.disk s.agenda luck
 client_step c shape s (Crash luck) = crashed s.disk s.agenda luck

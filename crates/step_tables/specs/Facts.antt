@@ -12,7 +12,8 @@ use Rattle.stab_base.specs.declared.node.Node.{Node}
 use Rattle.stab_base.specs.declared.step.Step.{Step}
 
 -- what a client tells when a plan of its commits: a write; that the Store has accepted a write, or refused it for good;
--- that a write is in conflict with a version, and is resolved beside it; that a version is read; a position of a table
+-- that a write is in conflict with a version, and is resolved beside it; that a version is read; a position of a table;
+-- that a table is opened, or closed for good
 pub data ClientFact : Type 0 where
   Wrote : (write : Write) → ClientFact
   Acked : (client number table : ℕ) → (row : List ℕ) → (version : ℕ) → ClientFact
@@ -21,10 +22,12 @@ pub data ClientFact : Type 0 where
   Resolved : (client number table : ℕ) → (row : List ℕ) → (version : ℕ) → ClientFact
   New : (client table : ℕ) → (row : List ℕ) → (version : ℕ) → ClientFact
   Position : (client table position : ℕ) → ClientFact
+  Opened : (client table : ℕ) → ClientFact
+  Dropped : (client table : ℕ) → ClientFact
 
 -- what nodes tell. A start tells again (`Redone`) what the plan tells that it finds unfinished, or from which row of
 -- the Store a plan was cut short before its commit (`Torn`); a Store's start tells that the pending entry was accepted
--- (`Forward`) or wasn't (`Back`)
+-- (`Forward`) or wasn't (`Back`). A Store makes a table live (`Made`), or drops it (`Unmade`)
 pub data Fact : Type 0 where
   Client : (fact : ClientFact) → Fact
   Redone : (fact : ClientFact) → Fact
@@ -32,6 +35,8 @@ pub data Fact : Type 0 where
   Forward : (table : ℕ) → (entry : Entry) → Fact
   Back : (table version : ℕ) → Fact
   StoreRecovered : (store table : ℕ) → Fact
+  Made : (table : ℕ) → Fact
+  Unmade : (table : ℕ) → Fact
   ClientRecovered : (client : ℕ) → Fact
   Torn : (client table : ℕ) → (row : List ℕ) → Fact
   Sent : (packet : ℕ) → (from to : Node) → (name : MessageName) → Fact

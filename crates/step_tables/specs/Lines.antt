@@ -63,6 +63,8 @@ client_fact_of (client.Conflict c number table row version) = facts.Conflict c n
 client_fact_of (client.Resolved c number table row version) = facts.Resolved c number table row version
 client_fact_of (client.New c table row version) = facts.New c table row version
 client_fact_of (client.Position c table position) = facts.Position c table position
+client_fact_of (client.Opened c table) = facts.Opened c table
+client_fact_of (client.Dropped c table) = facts.Dropped c table
 
 abbrev pub fact_of : Fact → facts.Fact
 fact_of (told.Sent packet from to name) = facts.Sent packet from to name
@@ -74,6 +76,8 @@ fact_of (told.Accepted table entry) = facts.Accepted table entry
 fact_of (told.Forward table entry) = facts.Forward table entry
 fact_of (told.Back table version) = facts.Back table version
 fact_of (told.StoreRecovered store table) = facts.StoreRecovered store table
+fact_of (told.Made table) = facts.Made table
+fact_of (told.Unmade table) = facts.Unmade table
 
 abbrev pub line_of : TextLine → facts.Line
 line_of (lines.Answer answer) = facts.AnswerLine (answer_of answer)

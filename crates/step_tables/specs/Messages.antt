@@ -8,7 +8,8 @@ use Rattle.table_model.specs.declared.message_name.MessageName.TheVariants as na
 use Rattle.stab_base.specs.declared.node.Node.{Node}
 
 -- what the Store makes of a request: it is accepted, was accepted before, comes behind a later write of its client,
--- rests on an older version than the row's last, in a strong and in a causal table, or keeps a chunk that the row hasn't
+-- rests on an older version than the row's last, in a strong and in a causal table, or keeps a chunk that the row
+-- hasn't
 pub data Outcome : Type 0 where
   Accepted : (version : ℕ) → Outcome
   Again : (version : ℕ) → Outcome

@@ -32,6 +32,8 @@ client_says (facts.Conflict client number table row version) = SaysConflict clie
 client_says (facts.Resolved client number table row version) = SaysResolved client number table row version
 client_says (facts.New client table row version) = SaysRead client table row version
 client_says (facts.Position client table position) = SaysPosition client table position
+client_says (facts.Opened client table) = SaysNothing
+client_says (facts.Dropped client table) = SaysNothing
 
 abbrev pub saying : Fact → Saying
 saying (facts.Client fact) = client_says fact
@@ -40,6 +42,8 @@ saying (facts.Accepted table entry) = SaysEntry table entry
 saying (facts.Forward table entry) = SaysEntry table entry
 saying (facts.Back table version) = SaysBack table version
 saying (facts.StoreRecovered store table) = SaysNothing
+saying (facts.Made table) = SaysNothing
+saying (facts.Unmade table) = SaysNothing
 saying (facts.ClientRecovered client) = SaysNothing
 saying (facts.Torn client table row) = SaysNothing
 saying (facts.Sent packet from to name) = SaysNothing

@@ -10,7 +10,8 @@ pub record Main : Type 0 where
   pub read : ℕ
   pub content : Content
 
--- the row as the client had it from the Store, with the Store's names of the chunks of each object, where they are known
+-- the row as the client had it from the Store, with the Store's names of the chunks of each object, where they are
+-- known
 pub record Shadow : Type 0 where
   pub version : ℕ
   pub content : Content

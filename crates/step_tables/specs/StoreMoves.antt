@@ -1,14 +1,18 @@
 -- The Store's step table, for one table: what a move makes of it, and what is told and sent. Its state is what its
 -- devices stand for, and the device writes that it has begun.
 use Rattle.std.specs.Prelude.{ℕ, ◌+◌, ◌==◌, nat_lt, Bool, true, ◌&&◌, List, [], ◌∷◌, ◌++◌, length, map, Option, Some}
-use Rattle.std.specs.Prelude.{None, option_map, if◌then◌else◌}
+use Rattle.std.specs.Prelude.{None, option_map, not, filter, if◌then◌else◌}
 use Rattle.std.specs.List.{find}
+use Rattle.std.specs.Ordering.{nat_cmp}
+use Rattle.std.specs.BTreeMap.{insert_entry}
 use Rattle.stab_base.specs.declared.chunk_name.ChunkName.{ChunkName}
 use Rattle.stab_base.specs.declared.step.Step.{Step}
 use Rattle.stab_base.specs.declared.step.Step.TheVariants as steps
 use Rattle.row_value.specs.declared.schema.Scheme.{Scheme}
 use Rattle.row_value.specs.declared.schema.Scheme.TheVariants.{Strong, Causal, Eventual}
 use Rattle.stab_base.specs.declared.node.Node.{Node}
+use Rattle.table_model.specs.declared.table_state.TableState.{TableState}
+use Rattle.table_model.specs.declared.table_state.TableState.TheVariants as states
 use Rattle.table_model.specs.History.{same_row}
 use Rattle.table_model.specs.Last.{last_where}
 use Rattle.step_tables.specs.Store.{Stored, current_of, next_changed, version_or}
@@ -23,15 +27,33 @@ use Rattle.step_tables.specs.Messages as messages
 
 -- ---- state
 
--- what the devices stand for: each update whose row write landed, the entry that is open in the log, and the chunks
--- that are there and that no row names
+-- a client's subscription: the gateway that the client came by, and how often it is told, in ticks
+pub record Terms : Type 0 where
+  pub gate : ℕ
+  pub period : ℕ
+  pub tolerance : ℕ
+
+-- what the devices stand for: each update whose row write landed, the entry that is open in the log, the chunks that
+-- are there and that no row names, whether the table is live, and the subscriptions by their clients
 pub record StoreDisk : Type 0 where
   pub items : List Stored
   pub pending : Option Stored
   pub left : List ChunkName
+  pub state : TableState
+  pub subs : List (ℕ × Terms)
 
--- One device write: a vault is opened, which changes nothing; an entry is opened in the log; a chunk is put; an update's
--- row is put, which names these chunks and leaves those; a chunk is dropped; the entry is closed.
+-- a table that was declared in this state
+abbrev pub new_disk : TableState → StoreDisk
+new_disk state = record { items = []; pending = None; left = []; state = state; subs = [] }
+
+-- what stands beside the rows: whether the table is live; a client's subscription, or that it has none
+pub data SidePut : Type 0 where
+  PutState : (state : TableState) → SidePut
+  PutSub : (client : ℕ) → (terms : Option Terms) → SidePut
+
+-- One device write: a vault is opened, which changes nothing; an entry is opened in the log; a chunk is put; an
+-- update's row is put, which names these chunks and leaves those; a chunk is dropped; the entry is closed; something is
+-- put beside the rows.
 pub data StoreChange : Type 0 where
   OpenChunks : StoreChange
   OpenRows : StoreChange
@@ -41,6 +63,7 @@ pub data StoreChange : Type 0 where
   Put : (item : Stored) → (named old : List ChunkName) → StoreChange
   DropChunk : (name : ChunkName) → StoreChange
   Close : StoreChange
+  PutBeside : (put : SidePut) → StoreChange
 
 -- a device write, with what is told and sent when it is done
 pub record StoreTask : Type 0 where
@@ -55,6 +78,7 @@ pub record TableStore : Type 0 where
 
 pub data StoreMove : Type 0 where
   Take : (from : Node) → (message : Message) → StoreMove
+  Place : (put : SidePut) → StoreMove
   Work : (luck : Luck) → StoreMove
   Crash : (luck : Luck) → StoreMove
   Start : StoreMove
@@ -73,6 +97,14 @@ down d = quiet d None (facts.Refuses facts.Down)
 
 -- ---- a device write
 
+abbrev pub with_sub : List (ℕ × Terms) → ℕ → Option Terms → List (ℕ × Terms)
+with_sub subs client None = filter (λ (entry : ℕ × Terms). not (entry.0 == client)) subs
+with_sub subs client (Some terms) = insert_entry nat_cmp subs client terms
+
+abbrev pub put_beside : StoreDisk → SidePut → StoreDisk
+put_beside d (PutState state) = record d { state = state }
+put_beside d (PutSub client terms) = record d { subs = with_sub d.subs client terms }
+
 abbrev pub changed : StoreDisk → StoreChange → StoreDisk
 changed d OpenChunks = d
 changed d OpenRows = d
@@ -83,6 +115,7 @@ changed d (Put item named old) =
     record d { items = d.items ++ item ∷ []; left = without_names named d.left ++ old }
 changed d (DropChunk name) = record d { left = without_names (name ∷ []) d.left }
 changed d Close = record d { pending = None }
+changed d (PutBeside put) = put_beside d put
 
 -- what the write is called
 abbrev pub step_of : StoreChange → Step
@@ -94,6 +127,8 @@ step_of (PutChunk name) = steps.ChunkPut
 step_of (Put item named old) = steps.RowPut
 step_of (DropChunk name) = steps.ChunkDrop
 step_of Close = steps.LogClose
+step_of (PutBeside (PutState state)) = steps.TablePut
+step_of (PutBeside (PutSub client terms)) = steps.SubPut
 
 abbrev pub done : StoreDisk → Option (List StoreTask) → StoreStep
 done d None = down d
@@ -319,6 +354,24 @@ abbrev pub version_at : StoreDisk → StoreChange → ℕ
 version_at d (Open item) = item.entry.version
 version_at d other = version_of d.pending
 
+-- ---- what is put beside the rows; a table at work takes nothing on
+
+-- a table that becomes live, or is dropped, is told of
+abbrev pub told_beside : ℕ → SidePut → List Fact
+told_beside table (PutState states.Draft) = []
+told_beside table (PutState states.Live) = facts.Made table ∷ []
+told_beside table (PutState states.Dropped) = facts.Unmade table ∷ []
+told_beside table (PutSub client terms) = []
+
+abbrev pub beside_task : ℕ → SidePut → StoreTask
+beside_task table put = record { change = PutBeside put; facts = told_beside table put; sends = [] }
+
+abbrev pub placed : ℕ → StoreDisk → Option (List StoreTask) → SidePut → StoreStep
+placed table d None put = down d
+placed table d (Some (task ∷ more)) put =
+    quiet d (Some (task ∷ more)) (facts.Refuses (facts.Busy (version_at d task.change)))
+placed table d (Some []) put = quiet d (Some (beside_task table put ∷ [])) facts.Done
+
 -- ---- a message; a table at work doesn't take it, and one that no rule takes is dropped. So is a request that doesn't
 -- spell its chunks
 
@@ -342,6 +395,7 @@ taken g size table d (Some []) from (TornRowResponse answer) = quiet d (Some [])
 -- what a move makes of a table of this number, scheme and size of chunks, at a Store of this number
 abbrev pub store_step : ℕ → Scheme → ℕ → ℕ → TableStore → StoreMove → StoreStep
 store_step store g size table s (Take from message) = taken g size table s.disk s.agenda from message
+store_step store g size table s (Place put) = placed table s.disk s.agenda put
 store_step store g size table s (Work luck) = worked s.disk s.agenda luck
 store_step store g size table s (Crash luck) = crashed s.disk s.agenda luck
 store_step store g size table s Start = started store table s.disk s.agenda

@@ -1,5 +1,7 @@
 ghost use Rattle.std.specs.Prelude.{◌≡◌};
+ghost use Rattle.step_tables.specs.Messages.{table_of};
 ghost use Rattle.step_tables.specs.Names.{name_of};
+ghost use Rattle.step_tables.specs.Travels.{message_of};
 
 use row_value::{ClientNo, Content, Pieces, RowId, Sequence, TableNo, Version, WriteNo};
 use stab_base::Names;
@@ -131,6 +133,20 @@ pub enum Message {
 }
 
 impl Message {
+    /// The table that the message is about.
+    pub fn table(&self) -> TableNo
+        ensures { result ≡ table_of (message_of self.now) }
+    {
+        match self {
+            Message::PullRequest(pull) => pull.table,
+            Message::PullResponse(pulled) => pulled.table,
+            Message::SyncRequest(request) => request.table,
+            Message::SyncResponse(response) => response.table,
+            Message::TornRowRequest(torn) => torn.table,
+            Message::TornRowResponse(answer) => answer.table,
+        }
+    }
+
     /// The name of the message's kind.
     pub fn name(&self) -> MessageName
         ensures { result ≡ name_of self.now }

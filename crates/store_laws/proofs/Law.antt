@@ -9,6 +9,7 @@ use Rattle.table_model.specs.Last.{last_where}
 use Rattle.step_tables.specs.Store.{Stored, current_of, next_changed}
 use Rattle.step_tables.specs.Facts.{Fact, Answer}
 use Rattle.step_tables.specs.Facts as facts
+use Rattle.table_model.specs.declared.table_state.TableState.TheVariants as states
 use Rattle.step_tables.specs.Members.{Among}
 use Rattle.step_tables.specs.Messages.{Request, Response, Pull, Pulled, Header, Pair, Outcome, Message, Send, Luck, SyncRequest, SyncResponse, PullRequest, PullResponse}
 use Rattle.step_tables.specs.Messages.{TornPull, TornRowRequest, TornRowResponse}
@@ -16,7 +17,8 @@ use Rattle.step_tables.specs.Messages as messages
 use Rattle.step_tables.specs.Sayings.{Saying, SaysNothing, SaysEntry, SaysBack, saying}
 use Rattle.stab_base.specs.declared.chunk_name.ChunkName.{ChunkName}
 use Rattle.step_tables.specs.Chunks.{without_names, rising, new_names, names_with, old_names, is_spelled}
-use Rattle.step_tables.specs.StoreMoves.{StoreDisk, StoreTask, TableStore, StoreMove, Open, Put, Close, Take, Work, Crash, Start, quiet, changed, done, crashed}
+use Rattle.step_tables.specs.StoreMoves.{StoreDisk, StoreTask, TableStore, StoreMove, Open, Put, Close, Take, Place, Work, Crash, Start, quiet}
+use Rattle.step_tables.specs.StoreMoves.{changed, done, crashed, SidePut, PutState, PutSub, placed, put_beside, told_beside, beside_task}
 use Rattle.step_tables.specs.StoreMoves.{failed, worked, item_at, ends_with, drops, recovering, recovered, recover, started, takes, outdated, responded, sending, item_for, puts, accepting, version_of}
 use Rattle.step_tables.specs.StoreMoves.{unaccepted, keeps_there, judged, pair_of, is_by, yours_in}
 use Rattle.step_tables.specs.StoreMoves.{decided, header_for, pulled_for, answered, torn_pulled_for, torn_answered, asked, taken, store_step}
@@ -416,8 +418,32 @@ module _ (g : Scheme) (table : ℕ) (K : Known) where
     take_law size d (Some []) from (TornRowResponse answer) f p = still d (Some []) _ p
     take_law size d (Some []) from (SyncRequest request) f p = asked_law size d from request f p
 
+    -- ---- what is put beside the rows
+
+    tells_beside : (put : SidePut) → TellsAll g table K h (told_beside table put) h
+    tells_beside (PutState states.Draft) = refl
+    tells_beside (PutState states.Live) = (h, refl, refl)
+    tells_beside (PutState states.Dropped) = (h, refl, refl)
+    tells_beside (PutSub client terms) = refl
+
+    told_put : (d : StoreDisk) (put : SidePut) → IsTold h d → IsTold h (put_beside d put)
+    told_put d (PutState state) k = record { items = k.items; open_entry = k.open_entry }
+    told_put d (PutSub client terms) k = record { items = k.items; open_entry = k.open_entry }
+
+    closed_put : (d : StoreDisk) (put : SidePut) → d.pending ≡ None → (put_beside d put).pending ≡ None
+    closed_put d (PutState state) e = e
+    closed_put d (PutSub client terms) e = e
+
+    place_law : (d : StoreDisk) (agenda : Option (List StoreTask)) (put : SidePut) → IsAt g table K h d agenda → StoreLaw g table K h (placed table d agenda put)
+    place_law d None put p = still d None _ p
+    place_law d (Some (task ∷ more)) put p = still d (Some (task ∷ more)) _ p
+    place_law d (Some []) put p =
+        let now : IsTold h (put_beside d put) = told_put d put p.0 in
+        still d (Some (beside_task table put ∷ [])) facts.Done (p.0, inl now, (h, tells_beside put, tt, (now, closed_put d put p.1)))
+
   pub store_law : (store size : ℕ) (h : List Stored) (s : TableStore) (move : StoreMove) → IsFair table K h move → StorePart g table K h s → StoreLaw g table K h (store_step store g size table s move)
   store_law store size h s (Take from message) f p = take_law h p.lawful size s.disk s.agenda from message f p.state
+  store_law store size h s (Place put) f p = place_law h p.lawful s.disk s.agenda put p.state
   store_law store size h s (Work luck) f p = work_law h p.lawful s.disk s.agenda luck p.state
   store_law store size h s (Crash luck) f p = crash_law h p.lawful s.disk s.agenda luck p.state
   store_law store size h s Start f p = start_law h p.lawful store s.disk s.agenda p.state

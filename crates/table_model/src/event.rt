@@ -6,7 +6,7 @@ use stab_base::Node;
 /// The tables that a client opens, in the order in which it names them.
 pub type Tables = Sequence<TableNo>;
 
-/// One line of a script. The first four are declarations.
+/// One line of a script. The first five are declarations.
 #[derive(Debug, Drop)]
 pub enum Event {
     /// There is a Store of this number.
@@ -19,6 +19,11 @@ pub enum Event {
     },
     /// There is a live table.
     Table {
+        table: TableNo,
+        schema: Schema,
+    },
+    /// There is a table that isn't live yet.
+    Draft {
         table: TableNo,
         schema: Schema,
     },
@@ -46,6 +51,18 @@ pub enum Event {
     Link {
         client: ClientNo,
         up: bool,
+    },
+    /// A client asks the table's Store to make a table that isn't live yet. In the worlds that know no such message the
+    /// node itself makes it: a Store makes it live, a client opens it.
+    Create {
+        node: Node,
+        table: TableNo,
+    },
+    /// A client asks the table's Store to drop a live table. In the worlds that know no such message the node itself
+    /// drops it: a Store keeps it for no client any more, a client closes it for good.
+    Drop {
+        node: Node,
+        table: TableNo,
     },
     /// The client shows a row.
     Show {

@@ -9,6 +9,7 @@ mod line;
 mod message;
 mod message_name;
 mod sum;
+mod table_state;
 
 pub use allowed::entry_allowed;
 pub use entry::{Entry, History, current};
@@ -26,3 +27,4 @@ pub use message::{
 pub use message_name::MessageName;
 pub use stab_base::Node;
 pub use sum::{ObjectSum, ObjectSums, RowSum, ShownSum};
+pub use table_state::TableState;

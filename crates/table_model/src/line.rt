@@ -170,6 +170,16 @@ pub enum ClientFact {
         table: TableNo,
         position: Version,
     },
+    /// The client has opened the table.
+    Opened {
+        client: ClientNo,
+        table: TableNo,
+    },
+    /// The client has closed the table for good.
+    Dropped {
+        client: ClientNo,
+        table: TableNo,
+    },
 }
 
 /// What a party did.
@@ -214,6 +224,14 @@ pub enum Fact {
     /// A table at a Store has done what its start had to do.
     StoreRecovered {
         store: StoreNo,
+        table: TableNo,
+    },
+    /// A Store has made the table live.
+    Made {
+        table: TableNo,
+    },
+    /// A Store has dropped the table.
+    Unmade {
         table: TableNo,
     },
 }

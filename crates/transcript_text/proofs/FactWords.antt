@@ -30,6 +30,8 @@ client_fact_words (changes.New client table row version) =
     codes "new" ∷ (codes "C" ++ decimal client) ∷ (codes "T" ++ decimal table) ∷ hyphenated_text lower row ∷ decimal version ∷ []
 client_fact_words (changes.Position client table position) =
     codes "position" ∷ (codes "C" ++ decimal client) ∷ (codes "T" ++ decimal table) ∷ decimal position ∷ []
+client_fact_words (changes.Opened client table) = codes "opened" ∷ (codes "C" ++ decimal client) ∷ (codes "T" ++ decimal table) ∷ []
+client_fact_words (changes.Dropped client table) = codes "dropped" ∷ (codes "C" ++ decimal client) ∷ (codes "T" ++ decimal table) ∷ []
 
 abbrev pub fact_words : Fact → List (List ℕ)
 fact_words (facts.Sent packet from to name) = codes "sent" ∷ decimal packet ∷ node_word from ∷ node_word to ∷ message_word name ∷ []
@@ -42,6 +44,8 @@ fact_words (facts.Accepted table entry) = codes "accepted" ∷ entry_words table
 fact_words (facts.Forward table entry) = codes "forward" ∷ entry_words table entry
 fact_words (facts.Back table version) = codes "back" ∷ (codes "T" ++ decimal table) ∷ decimal version ∷ []
 fact_words (facts.StoreRecovered store table) = codes "recovered" ∷ (codes "S" ++ decimal store) ∷ (codes "T" ++ decimal table) ∷ []
+fact_words (facts.Made table) = codes "made" ∷ (codes "T" ++ decimal table) ∷ []
+fact_words (facts.Unmade table) = codes "unmade" ∷ (codes "T" ++ decimal table) ∷ []
 
 outcome_led : (client number table : ℕ) (row : List ℕ) (version : ℕ)
     → outcome_text client number table row version ≡ led 32 (outcome_words client number table row version)
@@ -55,6 +59,8 @@ client_fact_led (changes.Conflict client number table row version) = rw outcome_
 client_fact_led (changes.Resolved client number table row version) = rw outcome_led refl
 client_fact_led (changes.New client table row version) = simp append-nil
 client_fact_led (changes.Position client table position) = simp append-nil
+client_fact_led (changes.Opened client table) = simp append-nil
+client_fact_led (changes.Dropped client table) = simp append-nil
 
 pub fact_led : (fact : Fact) → 32 ∷ fact_text fact ≡ led 32 (fact_words fact)
 fact_led (facts.Sent packet from to name) = simp (node_led, message_led, append-nil)
@@ -66,6 +72,8 @@ fact_led (facts.Accepted table entry) = rw entry_led refl
 fact_led (facts.Forward table entry) = rw entry_led refl
 fact_led (facts.Back table version) = simp append-nil
 fact_led (facts.StoreRecovered store table) = simp append-nil
+fact_led (facts.Made table) = simp append-nil
+fact_led (facts.Unmade table) = simp append-nil
 
 outcome_above : (client number table : ℕ) (row : List ℕ) (version : ℕ) → HasOutcomeText client number table row version
     → AllByRecursion (IsAbove 32) (outcome_words client number table row version)
@@ -79,6 +87,8 @@ client_fact_above (changes.Conflict client number table row version) h = search 
 client_fact_above (changes.Resolved client number table row version) h = search (rules, outcome_above)
 client_fact_above (changes.New client table row version) h = search (rules, decimal_above, row_above)
 client_fact_above (changes.Position client table position) h = search (rules, decimal_above)
+client_fact_above (changes.Opened client table) h = search (rules, decimal_above)
+client_fact_above (changes.Dropped client table) h = search (rules, decimal_above)
 
 pub fact_above : (fact : Fact) → HasFactText fact → AllByRecursion (IsAbove 32) (fact_words fact)
 fact_above (facts.Sent packet from to name) h = search (rules, decimal_above, node_above, message_above)
@@ -90,6 +100,8 @@ fact_above (facts.Accepted table entry) h = search (rules, entry_above)
 fact_above (facts.Forward table entry) h = search (rules, entry_above)
 fact_above (facts.Back table version) h = search (rules, decimal_above)
 fact_above (facts.StoreRecovered store table) h = search (rules, decimal_above)
+fact_above (facts.Made table) h = search (rules, decimal_above)
+fact_above (facts.Unmade table) h = search (rules, decimal_above)
 
 client_fact_number : ClientFact → ℕ
 client_fact_number (changes.Wrote write) = 0
@@ -99,11 +111,14 @@ client_fact_number (changes.Conflict client number table row version) = 3
 client_fact_number (changes.Resolved client number table row version) = 4
 client_fact_number (changes.New client table row version) = 5
 client_fact_number (changes.Position client table position) = 6
+client_fact_number (changes.Opened client table) = 7
+client_fact_number (changes.Dropped client table) = 8
 
 client_fact_in : List ℕ → ℕ
 client_fact_in word =
     cond (bytes_eq word (codes "wrote")) 0 (cond (bytes_eq word (codes "acked")) 1 (cond (bytes_eq word (codes "refused")) 2
-    (cond (bytes_eq word (codes "conflict")) 3 (cond (bytes_eq word (codes "resolved")) 4 (cond (bytes_eq word (codes "new")) 5 6)))))
+    (cond (bytes_eq word (codes "conflict")) 3 (cond (bytes_eq word (codes "resolved")) 4 (cond (bytes_eq word (codes "new")) 5
+    (cond (bytes_eq word (codes "opened")) 7 (cond (bytes_eq word (codes "dropped")) 8 6)))))))
 
 client_fact_read : (fact : ClientFact) → client_fact_in (first_word (client_fact_words fact)) ≡ client_fact_number fact
 unfolding client_fact_in client_fact_number
@@ -114,6 +129,8 @@ client_fact_read (changes.Conflict client number table row version) = refl
 client_fact_read (changes.Resolved client number table row version) = refl
 client_fact_read (changes.New client table row version) = refl
 client_fact_read (changes.Position client table position) = refl
+client_fact_read (changes.Opened client table) = refl
+client_fact_read (changes.Dropped client table) = refl
 
 -- what became of two writes that are spelled alike
 record OutcomeSame (c c_2 n n_2 t t_2 : ℕ) (r r_2 : List ℕ) (v v_2 : ℕ) : Type 0 where
@@ -154,6 +171,10 @@ client_fact_same (changes.New c t r v) (changes.New c_2 t_2 r_2 v_2) p q e =
     )
 client_fact_same (changes.Position c t v) (changes.Position c_2 t_2 v_2) p q e =
     cc (decimal_injective c c_2 (omega (arith, p)) (omega (arith, q)) (cc), decimal_injective t t_2 (omega (arith, p)) (omega (arith, q)) (cc), decimal_injective v v_2 p.2 q.2 (cc))
+client_fact_same (changes.Opened c t) (changes.Opened c_2 t_2) p q e =
+    cc (decimal_injective c c_2 (omega (arith, p)) (omega (arith, q)) (cc), decimal_injective t t_2 (omega (arith, p)) (omega (arith, q)) (cc))
+client_fact_same (changes.Dropped c t) (changes.Dropped c_2 t_2) p q e =
+    cc (decimal_injective c c_2 (omega (arith, p)) (omega (arith, q)) (cc), decimal_injective t t_2 (omega (arith, p)) (omega (arith, q)) (cc))
 client_fact_same a b p q e =
     let same : client_fact_number a ≡ client_fact_number b = sym (client_fact_read a) ∙ ap (λ words. client_fact_in (first_word words)) e ∙ client_fact_read b in
     absurd (omega (arith, same))
@@ -169,12 +190,15 @@ fact_number (facts.Accepted table entry) = 5
 fact_number (facts.Forward table entry) = 6
 fact_number (facts.Back table version) = 7
 fact_number (facts.StoreRecovered store table) = 4
+fact_number (facts.Made table) = 8
+fact_number (facts.Unmade table) = 9
 
 fact_in : List ℕ → ℕ
 fact_in word =
     cond (bytes_eq word (codes "sent")) 0 (cond (bytes_eq word (codes "redone")) 2 (cond (bytes_eq word (codes "torn")) 3
     (cond (bytes_eq word (codes "recovered")) 4 (cond (bytes_eq word (codes "accepted")) 5
-    (cond (bytes_eq word (codes "forward")) 6 (cond (bytes_eq word (codes "back")) 7 1))))))
+    (cond (bytes_eq word (codes "forward")) 6 (cond (bytes_eq word (codes "back")) 7
+    (cond (bytes_eq word (codes "made")) 8 (cond (bytes_eq word (codes "unmade")) 9 1))))))))
 
 fact_read : (fact : Fact) → fact_in (first_word (fact_words fact)) ≡ fact_number fact
 unfolding fact_in fact_number
@@ -186,6 +210,8 @@ fact_read (facts.Client (changes.Conflict client number table row version)) = re
 fact_read (facts.Client (changes.Resolved client number table row version)) = refl
 fact_read (facts.Client (changes.New client table row version)) = refl
 fact_read (facts.Client (changes.Position client table position)) = refl
+fact_read (facts.Client (changes.Opened client table)) = refl
+fact_read (facts.Client (changes.Dropped client table)) = refl
 fact_read (facts.Redone fact) = refl
 fact_read (facts.Torn client table row) = refl
 fact_read (facts.ClientRecovered client) = refl
@@ -193,6 +219,8 @@ fact_read (facts.Accepted table entry) = refl
 fact_read (facts.Forward table entry) = refl
 fact_read (facts.Back table version) = refl
 fact_read (facts.StoreRecovered store table) = refl
+fact_read (facts.Made table) = refl
+fact_read (facts.Unmade table) = refl
 
 pub fact_same : (a b : Fact) → HasFactText a → HasFactText b → fact_words a ≡ fact_words b → a ≡ b
 unfolding fact_number
@@ -215,6 +243,8 @@ fact_same (facts.Forward s a) (facts.Forward t b) p q e = let same = entry_same 
 fact_same (facts.Back t v) (facts.Back t_2 v_2) p q e = cc (decimal_injective t t_2 (omega (arith, p)) (omega (arith, q)) (cc), decimal_injective v v_2 p.1 q.1 (cc))
 fact_same (facts.StoreRecovered s t) (facts.StoreRecovered s_2 t_2) p q e =
     cc (decimal_injective s s_2 (omega (arith, p)) (omega (arith, q)) (cc), decimal_injective t t_2 (omega (arith, p)) (omega (arith, q)) (cc))
+fact_same (facts.Made t) (facts.Made t_2) p q e = ap facts.Made (decimal_injective t t_2 (omega (arith, p)) (omega (arith, q)) (cc))
+fact_same (facts.Unmade t) (facts.Unmade t_2) p q e = ap facts.Unmade (decimal_injective t t_2 (omega (arith, p)) (omega (arith, q)) (cc))
 fact_same a b p q e =
     let same : fact_number a ≡ fact_number b = sym (fact_read a) ∙ ap (λ words. fact_in (first_word words)) e ∙ fact_read b in
     absurd (omega (arith, same))

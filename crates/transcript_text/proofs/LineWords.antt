@@ -614,6 +614,8 @@ client_fact_kind (changes.Conflict client number table row version) = refl
 client_fact_kind (changes.Resolved client number table row version) = refl
 client_fact_kind (changes.New client table row version) = refl
 client_fact_kind (changes.Position client table position) = refl
+client_fact_kind (changes.Opened client table) = refl
+client_fact_kind (changes.Dropped client table) = refl
 
 fact_kind : (fact : Fact) → kind_in (first_word (fact_words fact)) ≡ 2
 unfolding kind_in
@@ -626,6 +628,8 @@ fact_kind (facts.Accepted table entry) = refl
 fact_kind (facts.Forward table entry) = refl
 fact_kind (facts.Back table version) = refl
 fact_kind (facts.StoreRecovered store table) = refl
+fact_kind (facts.Made table) = refl
+fact_kind (facts.Unmade table) = refl
 
 line_kind : (line : TextLine) → kind_in (first_word (words_of line)) ≡ kind_of line
 unfolding kind_in kind_of

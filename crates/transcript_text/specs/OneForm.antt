@@ -156,6 +156,8 @@ HasClientFactText (changes.New client table row version) =
     (client < 2 ^ 32) × (table < 2 ^ 32) × HasRowText row × (version < 2 ^ 64)
 HasClientFactText (changes.Position client table position) =
     (client < 2 ^ 32) × (table < 2 ^ 32) × (position < 2 ^ 64)
+HasClientFactText (changes.Opened client table) = (client < 2 ^ 32) × (table < 2 ^ 32)
+HasClientFactText (changes.Dropped client table) = (client < 2 ^ 32) × (table < 2 ^ 32)
 
 abbrev pub HasFactText : Fact → Type 0
 HasFactText (facts.Sent packet from to name) = (packet < 2 ^ 64) × HasNodeText from × HasNodeText to
@@ -167,6 +169,8 @@ HasFactText (facts.Accepted table entry) = HasEntryText table entry
 HasFactText (facts.Forward table entry) = HasEntryText table entry
 HasFactText (facts.Back table version) = (table < 2 ^ 32) × (version < 2 ^ 64)
 HasFactText (facts.StoreRecovered store table) = (store < 2 ^ 32) × (table < 2 ^ 32)
+HasFactText (facts.Made table) = table < 2 ^ 32
+HasFactText (facts.Unmade table) = table < 2 ^ 32
 
 abbrev pub HasText : TextLine → Type 0
 HasText (lines.Answer answer) = HasAnswerText answer

@@ -195,6 +195,9 @@ client_fact_text (changes.New client table row version) =
     ++ (decimal table ++ (codes " " ++ (hyphenated_text lower row ++ (codes " " ++ decimal version))))))
 client_fact_text (changes.Position client table position) =
     codes "position C" ++ (decimal client ++ (codes " T" ++ (decimal table ++ (codes " " ++ decimal position))))
+client_fact_text (changes.Opened client table) = codes "opened C" ++ (decimal client ++ (codes " T" ++ decimal table))
+client_fact_text (changes.Dropped client table) =
+    codes "dropped C" ++ (decimal client ++ (codes " T" ++ decimal table))
 
 abbrev pub fact_text : Fact → List ℕ
 fact_text (facts.Sent packet from to name) =
@@ -209,6 +212,8 @@ fact_text (facts.Forward table entry) = codes "forward" ++ entry_text table entr
 fact_text (facts.Back table version) = codes "back T" ++ (decimal table ++ (codes " " ++ decimal version))
 fact_text (facts.StoreRecovered store table) =
     codes "recovered S" ++ (decimal store ++ (codes " T" ++ decimal table))
+fact_text (facts.Made table) = codes "made T" ++ decimal table
+fact_text (facts.Unmade table) = codes "unmade T" ++ decimal table
 
 abbrev pub text_of : TextLine → List ℕ
 text_of (lines.Answer answer) = answer_text answer

@@ -461,11 +461,14 @@ fn put_client_fact(alloc: Global, out: &mut String, fact: &ClientFact) -> Result
             table,
             position,
         } => write!(out, "position C{client} T{table} {position}"),
+        ClientFact::Opened { client, table } => write!(out, "opened C{client} T{table}"),
+        ClientFact::Dropped { client, table } => write!(out, "dropped C{client} T{table}"),
     }
 }
 
 fn put_recovered(out: &mut String, store: StoreNo, table: TableNo) -> Result<(), AllocError>
-    ensures { OnOk result (string_bytes out.new ≡ string_bytes out.old ++ fact_text (facts.StoreRecovered store table)) }
+    ensures { OnOk result (string_bytes out.new
+        ≡ string_bytes out.old ++ fact_text (facts.StoreRecovered store table)) }
 {
     write!(out, "recovered S{store} T{table}")
 }
@@ -497,6 +500,8 @@ fn put_fact(alloc: Global, out: &mut String, fact: &Fact) -> Result<(), AllocErr
         }
         Fact::Back { table, version } => write!(out, "back T{table} {version}"),
         Fact::StoreRecovered { store, table } => put_recovered(out, *store, *table),
+        Fact::Made { table } => write!(out, "made T{table}"),
+        Fact::Unmade { table } => write!(out, "unmade T{table}"),
     }
 }
 

@@ -124,6 +124,22 @@ fn facts_have_their_fields_in_order(rt: HostRuntime) -> Result<(), Fail> {
             Fact::StoreRecovered { store: 1, table: 3 },
             "recovered S1 T3",
         ),
+        (Fact::Made { table: 3 }, "made T3"),
+        (Fact::Unmade { table: 12 }, "unmade T12"),
+        (
+            Fact::Client(ClientFact::Opened {
+                client: 2,
+                table: 3,
+            }),
+            "opened C2 T3",
+        ),
+        (
+            Fact::Redone(ClientFact::Dropped {
+                client: 2,
+                table: 3,
+            }),
+            "redone dropped C2 T3",
+        ),
     ];
     for (fact, text) in cases {
         check(&rt, rt.alloc(), &TextLine::Fact(fact), text)?;

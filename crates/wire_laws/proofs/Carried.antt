@@ -21,7 +21,7 @@ use Rattle.world_tables.specs.Ready.{is_idle, is_idle_table, is_idle_client, is_
 use Rattle.world_tables.specs.Turns.{Happening}
 use Rattle.world_tables.specs.World.{World, Packet, Hosted, Lucks, WorldStep, owner_of, hosted_by, schema_at, scheme_in, chunk_in, hosted_at, client_at, is_down, is_cut, is_client_down}
 use Rattle.world_tables.specs.World.{history_on, table_step, move_hosted, move_table, answering, failing, store_falls, client_falls, first_luck, other_lucks, refused}
-use Rattle.world_tables.specs.World.{take_read, take_at, to_hosted, unless_down, reads, call_there, call, to_there, carried, delivered}
+use Rattle.world_tables.specs.World.{take_read, take_at, to_hosted, unless_down, reads, is_closed, is_closed_in, call_there, call, to_there, carried, delivered}
 use Rattle.world_tables.specs.World as world
 use Rattle.world_laws.proofs.Looks.{look_cases}
 use Rattle.world_laws.proofs.Owners.{hosted_by_is, hosted_by_owner}
@@ -32,12 +32,12 @@ use Rattle.part_tables.specs.StoreParts as at_store
 use Rattle.part_tables.specs.StoreParts.{StoreTaken}
 use Rattle.part_tables.specs.ClientParts as at_client
 use Rattle.part_tables.specs.Arriving.{Arrived, arrived}
-use Rattle.wire_tables.specs.Wire.{PartPacket, Wire, start, or_no_gatherings, or_nothing, gathered_at, arriving_at, with_gathered, with_arriving, part_table, spread, any_of, whole}
+use Rattle.wire_tables.specs.Wire.{PartPacket, Wire, WireStep, start, or_no_gatherings, or_nothing, gathered_at, arriving_at, with_gathered, with_arriving, part_table, spread, any_of, whole}
 use Rattle.wire_tables.specs.Wire.{untaken, waits, store_taken, parted_at, by_hosted, client_taken, by_table, by_client, brought, wire_step}
 use Rattle.wire_tables.specs.Wire as wire
 use Rattle.wire_tables.specs.Runs.{wire_from}
 use Rattle.wire_laws.specs.Runs.{AreBuilt}
-use Rattle.wire_laws.specs.Carried.{IsFit, store_of, HaveSameTables, IsCarriedAs, IsSent, TakesNothing, IsUntaken, IsAtStore, IsAtClient, IsFallenStore, IsFallenClient}
+use Rattle.wire_laws.specs.Carried.{is_open_in, IsFit, store_of, HaveSameTables, IsCarriedAs, IsSent, TakesNothing, IsUntaken, IsAtStore, IsAtClient, IsFallenStore, IsFallenClient}
 use Rattle.wire_laws.proofs.Places.{place_of}
 use Rattle.wire_laws.proofs.PartsOf.{part_of, same_table}
 use Rattle.wire_laws.proofs.Ground.{IsGround, size_in}
@@ -111,9 +111,6 @@ some_hosted a b e = cc
 
 some_client : (a b : Client) → Some a ≡ Some b → a ≡ b
 some_client a b e = cc
-
-some_table : (a : TableDisk) → None ≡ Some a → ⊥
-some_table a e = cc
 
 -- ---- a packet in whose place a message is handed on
 
@@ -285,6 +282,9 @@ module _ (v : Wire) (number : ℕ) (p : PartPacket) (s : IsSent v number p) wher
 
   -- ---- to a client
 
+  abbrev by_open : ℕ → TableDisk → Lucks → Bool → WireStep
+  by_open c opened lucks closed = if closed then untaken v p lucks else client_taken v c p lucks (arrived opened (arriving_at v c) p.part)
+
   module _ (c : ℕ) (here : p.to ≡ nodes.Client c) where
     client_untaken : ((lucks : Lucks) → to_there w c (any_of table) lucks.shape lucks.calls (client_at w c) ≡ to_there w c h.packet.message lucks.shape lucks.calls (client_at w c))
         → ((lucks : Lucks) → brought v p lucks (nodes.Client c) ≡ untaken v p lucks) → IsUntaken v number p
@@ -295,7 +295,7 @@ module _ (v : Wire) (number : ℕ) (p : PartPacket) (s : IsSent v number p) wher
       where
         alike : (lucks : Lucks) (o : Option Client) → client_at w c ≡ o → to_there w c (any_of table) lucks.shape lucks.calls o ≡ to_there w c h.packet.message lucks.shape lucks.calls o
         alike lucks None at = refl
-        alike lucks (Some node) at = clients.cut_same w c lucks.shape lucks.calls node (any_of table) h.packet.message cut
+        alike lucks (Some node) at = clients.cut_same w c lucks.shape lucks.calls node (any_of table) h.packet.message (sym same) cut
 
     module _ (linked : is_cut w c ≡ false) where
       linked_brought : (lucks : Lucks) → brought v p lucks (nodes.Client c) ≡ by_client v c p lucks (client_at w c)
@@ -311,33 +311,44 @@ module _ (v : Wire) (number : ℕ) (p : PartPacket) (s : IsSent v number p) wher
             → by_client v c p lucks (client_at w c) ≡ by_client v c p lucks (Some (record node { agenda = agenda }))
         client_agenda agenda is lucks = ap (by_client v c p lucks) there ∙ ap (λ (a : Option (List ClientTask)). by_client v c p lucks (Some (record node { agenda = a }))) is
 
-        step_same : ((shape : Shape) → client.client_step c shape node (client.Take (any_of table)) ≡ client.client_step c shape node (client.Take h.packet.message))
+        call_same : ((lucks : Lucks) → call_there w c (client.Take (any_of table)) lucks.shape lucks.calls (Some node)
+            ≡ call_there w c (client.Take h.packet.message) lucks.shape lucks.calls (Some node))
             → ((lucks : Lucks) → by_client v c p lucks (client_at w c) ≡ untaken v p lucks) → IsUntaken v number p
-        step_same alike is = client_untaken
-            (λ lucks. ap (to_there w c (any_of table) lucks.shape lucks.calls) there
-            ∙ (clients.taken_same w c lucks.shape lucks.calls node (any_of table) h.packet.message there (alike lucks.shape)
-            ∙ sym (ap (to_there w c h.packet.message lucks.shape lucks.calls) there)))
+        call_same alike is = client_untaken
+            (λ lucks. ap (to_there w c (any_of table) lucks.shape lucks.calls) there ∙ (alike lucks ∙ sym (ap (to_there w c h.packet.message lucks.shape lucks.calls) there)))
             (λ lucks. linked_brought lucks ∙ is lucks)
 
-        by_opened : node.agenda ≡ Some [] → (o : Option TableDisk) → table_at (seen node.disk) table ≡ o → ((opened : TableDisk) → table_at (seen node.disk) table ≡ Some opened → ⊥) → IsUntaken v number p
+        step_same : ((shape : Shape) → client.client_step c shape node (client.Take (any_of table)) ≡ client.client_step c shape node (client.Take h.packet.message))
+            → ((lucks : Lucks) → by_client v c p lucks (client_at w c) ≡ untaken v p lucks) → IsUntaken v number p
+        step_same alike is = call_same
+            (λ lucks. clients.taken_same w c lucks.shape lucks.calls node (any_of table) h.packet.message (sym same) there (alike lucks.shape)) is
+
+        by_opened : node.agenda ≡ Some [] → (o : Option TableDisk) → table_at (seen node.disk) table ≡ o → (is_open_in (table_at (seen node.disk) table) ≡ true → ⊥) → IsUntaken v number p
         by_opened idle None none never = step_same
             (λ shape. clients.unopened_step c shape node (any_of table) h.packet.message table refl same idle none)
             (λ lucks. client_agenda (Some []) idle lucks ∙ ap (by_table v c p lucks) none)
-        by_opened idle (Some opened) is never = absurd (never opened is)
+        by_opened idle (Some opened) is never = go opened.closed refl
+          where
+            go : (b : Bool) → opened.closed ≡ b → IsUntaken v number p
+            go false opens = absurd (never (ap is_open_in is ∙ ap not opens))
+            go true closed = call_same
+                (λ lucks. clients.closed_same w c lucks.shape lucks.calls node (any_of table) h.packet.message (sym same)
+                (ap (λ (t : ℕ). is_closed node (Some t)) same ∙ (ap is_closed_in is ∙ closed)))
+                (λ lucks. client_agenda (Some []) idle lucks ∙ (ap (by_table v c p lucks) is ∙ ap (by_open c opened lucks) closed))
 
         by_agenda : (agenda : Option (List ClientTask)) → node.agenda ≡ agenda
-            → (node.agenda ≡ Some [] → (opened : TableDisk) → table_at (seen node.disk) table ≡ Some opened → ⊥) → IsUntaken v number p
+            → (node.agenda ≡ Some [] → is_open_in (table_at (seen node.disk) table) ≡ true → ⊥) → IsUntaken v number p
         by_agenda None is never = step_same (λ shape. clients.down_step c shape node (any_of table) h.packet.message is) (λ lucks. client_agenda None is lucks)
         by_agenda (Some []) is never = by_opened is (table_at (seen node.disk) table) refl (never is)
         by_agenda (Some (task ∷ more)) is never =
             step_same (λ shape. clients.busy_step c shape node (any_of table) h.packet.message task more is) (λ lucks. client_agenda (Some (task ∷ more)) is lucks)
 
     never_ready : TakesNothing w table (nodes.Client c) → is_cut w c ≡ false → (node : Client) → client_at w c ≡ Some node → node.agenda ≡ Some []
-        → (opened : TableDisk) → table_at (seen node.disk) table ≡ Some opened → ⊥
-    never_ready (inl ready) linked node there idle opened at = true≢false
+        → is_open_in (table_at (seen node.disk) table) ≡ true → ⊥
+    never_ready (inl ready) linked node there idle opens = true≢false
         (sym (ap (λ (b : Bool). not b && is_idle_client (client_at w c)) linked ∙ (ap is_idle_client there ∙ ap is_idle idle)) ∙ ready)
-    never_ready (inr u) linked node there idle opened at =
-        some_table opened (sym (ap (λ (x : Client). table_at (seen x.disk) table) (some_client node u.node (sym there ∙ u.there)) ∙ u.none) ∙ at)
+    never_ready (inr u) linked node there idle opens =
+        true≢false (sym opens ∙ (ap (λ (x : Client). is_open_in (table_at (seen x.disk) table)) (some_client node u.node (sym there ∙ u.there)) ∙ u.none))
 
     to_client : TakesNothing w table (nodes.Client c) → IsUntaken v number p
     to_client nothing = go (is_cut w c) refl
@@ -408,7 +419,7 @@ module _ (v : Wire) (number : ℕ) (p : PartPacket) (s : IsSent v number p) wher
         let idle : node.agenda ≡ Some [] = ap (λ (x : Client). x.agenda) (some_client node open_to.node (sym there ∙ open_to.there)) ∙ open_to.idle in
         brought_is (nodes.Client c) here lucks ∙ (linked_brought c here open_to.linked lucks ∙ client_agenda c here open_to.linked node there (Some []) idle lucks)
 
-    module _ (node : Client) (there : client_at w c ≡ Some node) (opened : TableDisk) (is_there : table_at (seen node.disk) table ≡ Some opened) where
+    module _ (node : Client) (there : client_at w c ≡ Some node) (opened : TableDisk) (is_there : table_at (seen node.disk) table ≡ Some opened) (open_now : opened.closed ≡ false) where
       is_idle_now : node.agenda ≡ Some []
       is_idle_now = ap (λ (x : Client). x.agenda) (some_client node open_to.node (sym there ∙ open_to.there)) ∙ open_to.idle
 
@@ -420,13 +431,13 @@ module _ (v : Wire) (number : ℕ) (p : PartPacket) (s : IsSent v number p) wher
           let t = clients.completes_as v g k number p s.at world.no_lucks h c here node there is_idle_now opened is_there m is in
           carried_as w p.from (nodes.Client c) m t.packet t.stands t.to
           (λ lucks. ap (to_there w c m lucks.shape lucks.calls) there
-          ∙ (clients.taken_same w c lucks.shape lucks.calls node m t.packet.message there (t.step lucks.shape)
+          ∙ (clients.taken_same w c lucks.shape lucks.calls node m t.packet.message t.tables there (t.step lucks.shape)
           ∙ sym (ap (to_there w c t.packet.message lucks.shape lucks.calls) there)))
           (inl refl) t.fit
 
       pub client_as : IsAtClient v number p c opened
       client_as = record {
-        step_is = λ lucks. by_table_is node there lucks ∙ ap (by_table v c p lucks) is_there;
+        step_is = λ lucks. by_table_is node there lucks ∙ (ap (by_table v c p lucks) is_there ∙ ap (by_open c opened lucks) open_now);
         whole = λ m is. subst (λ (to : Node). IsCarriedAs w p.from to m) (sym here) (client_whole m is);
       }
 
@@ -547,7 +558,11 @@ module _ (v : Wire) (number : ℕ) (p : PartPacket) (s : IsSent v number p) wher
     untaken_falls is =
         client_fallen v refl refl refl (λ d other. refl) (is ∙ ap (spread v) (ap (carried w (whole p (any_of table)) lucks.shape lucks.calls) here ∙ client_carries (whole p (any_of table))))
 
-    module _ (opened : TableDisk) (is_there : table_at (seen resting.node.disk) table ≡ Some opened) where
+    table_is : (opened : TableDisk) → table_at (seen resting.node.disk) table ≡ Some opened → (b : Bool) → opened.closed ≡ b
+        → wire_step v (events.Deliver number) lucks ≡ by_open c opened lucks b
+    table_is opened is_there b is = by_table_is c here ready resting.node resting.there lucks ∙ (ap (by_table v c p lucks) is_there ∙ ap (by_open c opened lucks) is)
+
+    module _ (opened : TableDisk) (is_there : table_at (seen resting.node.disk) table ≡ Some opened) (open_now : opened.closed ≡ false) where
       abbrev z : Arrived
       z = arrived opened (arriving_at v c) p.part
 
@@ -556,8 +571,7 @@ module _ (v : Wire) (number : ℕ) (p : PartPacket) (s : IsSent v number p) wher
 
       client_at_taken : (t : at_client.Taken) → z.taken ≡ t → wire_step v (events.Deliver number) lucks ≡ client_taken v c p lucks (record z { taken = t })
       client_at_taken t is =
-          by_table_is c here ready resting.node resting.there lucks
-          ∙ (ap (by_table v c p lucks) is_there ∙ ap (λ (y : at_client.Taken). client_taken v c p lucks (record z { taken = y })) is)
+          table_is opened is_there false open_now ∙ ap (λ (y : at_client.Taken). client_taken v c p lucks (record z { taken = y })) is
 
       kept_falls : (x : WorldStep) → wire_step v (events.Deliver number) lucks ≡ spread kept_arriving x → x ≡ fallen_client → IsFallenClient v number lucks c
       kept_falls x is falls =
@@ -577,4 +591,8 @@ module _ (v : Wire) (number : ℕ) (p : PartPacket) (s : IsSent v number p) wher
       where
         go : (o : Option TableDisk) → table_at (seen resting.node.disk) table ≡ o → IsFallenClient v number lucks c
         go None none = untaken_falls (by_table_is c here ready resting.node resting.there lucks ∙ ap (by_table v c p lucks) none)
-        go (Some opened) is_there = opened_falls opened is_there (arrived opened (arriving_at v c) p.part).taken refl
+        go (Some opened) is_there = by_closed opened.closed refl
+          where
+            by_closed : (b : Bool) → opened.closed ≡ b → IsFallenClient v number lucks c
+            by_closed true closed = untaken_falls (table_is opened is_there true closed)
+            by_closed false opens = opened_falls opened is_there opens (arrived opened (arriving_at v c) p.part).taken refl

@@ -9,6 +9,8 @@ use Rattle.std.specs.BTreeMap.{is_at}
 use Rattle.row_value.specs.declared.schema.Schema.{Schema}
 use Rattle.table_model.specs.declared.event.Event.{Event}
 use Rattle.table_model.specs.declared.event.Event.TheVariants as events
+use Rattle.table_model.specs.declared.table_state.TableState.{TableState}
+use Rattle.table_model.specs.declared.table_state.TableState.TheVariants as states
 use Rattle.step_tables.specs.Members.{Among}
 use Rattle.step_tables.specs.Messages.{Request, Pulled, TornPulled, Header, Message, Luck, SyncRequest, SyncResponse, PullRequest, PullResponse, TornRowRequest, TornRowResponse, table_of}
 use Rattle.step_tables.specs.Messages as messages
@@ -57,22 +59,23 @@ abbrev pub SchemasStay : World → World → Type 0
 SchemasStay w later = (table : ℕ) (schema : Schema) → schema_at w table ≡ Some schema → schema_at later table ≡ Some schema
 
 module _ (w : World) (g : IsGround w) where
-  with_stays : (table : ℕ) (new : Schema) (made : Bool) → hosted_at w table ≡ None → SchemasStay w (with_table w table new made)
-  with_stays table new made none q schema at = ⊎_elim
+  with_stays : (table : ℕ) (new : Schema) (state : TableState) (made : Bool) → hosted_at w table ≡ None → SchemasStay w (with_table w table new state made)
+  with_stays table new state made none q schema at = ⊎_elim
       (λ e. absurd (let both : Some schema ≡ None = sym at ∙ (ap (schema_at w) e.0 ∙ g.unhosted table none) in cc))
       (λ e. e.1 ∙ at) (look_cases w.schemas table new q)
 
-  made_stays : (table : ℕ) (new : Schema) (luck : Luck) → hosted_at w table ≡ None → SchemasStay w (made_with w table new luck)
-  made_stays table new messages.Done none = with_stays table new true none
-  made_stays table new messages.FailedBefore none = with_stays table new false none
-  made_stays table new messages.FailedAfter none = with_stays table new false none
+  made_stays : (table : ℕ) (new : Schema) (state : TableState) (luck : Luck) → hosted_at w table ≡ None → SchemasStay w (made_with w table new state luck)
+  made_stays table new state messages.Done none = with_stays table new state true none
+  made_stays table new state messages.FailedBefore none = with_stays table new state false none
+  made_stays table new state messages.FailedAfter none = with_stays table new state false none
 
-  declared_stays : (table : ℕ) (new : Schema) (luck : Luck) (o : Option Hosted) → hosted_at w table ≡ o → SchemasStay w (declared w table new luck o)
-  declared_stays table new luck (Some hosted) there q schema at = at
-  declared_stays table new luck None there q schema at = made_stays table new luck there q schema at
+  declared_stays : (table : ℕ) (new : Schema) (state : TableState) (luck : Luck) (o : Option Hosted) → hosted_at w table ≡ o → SchemasStay w (declared w table new state luck o)
+  declared_stays table new state luck (Some hosted) there q schema at = at
+  declared_stays table new state luck None there q schema at = made_stays table new state luck there q schema at
 
   events_stay : (event : Event) (lucks : Lucks) (q : ℕ) (schema : Schema) → schema_at w q ≡ Some schema → lookup (is_at (nat_cmp q)) (schemas_by w event lucks) ≡ Some schema
-  events_stay (events.Table table new) lucks q schema at = declared_stays table new (first_luck lucks.calls) (hosted_at w table) refl q schema at
+  events_stay (events.Table table new) lucks q schema at = declared_stays table new states.Live (first_luck lucks.calls) (hosted_at w table) refl q schema at
+  events_stay (events.Draft table new) lucks q schema at = declared_stays table new states.Draft (first_luck lucks.calls) (hosted_at w table) refl q schema at
   events_stay other lucks q schema at = at
 
   pub schemas_stay : (event : Event) (lucks : Lucks) → SchemasStay w (step w event lucks).world
@@ -88,6 +91,7 @@ module _ (w : World) (g : IsGround w) where
 
       go : (e : Event) → ((step w e lucks).outs ≡ []) ⊎ ((step w e lucks).world.schemas ≡ w.schemas)
       go (events.Table table new) = inl refl
+      go (events.Draft table new) = inl refl
       go e = other e refl
 
 -- ---- a message with a row is of a declared table

@@ -6,6 +6,7 @@ use Rattle.stab_base.specs.declared.node.Node.{Node}
 use Rattle.stab_base.specs.declared.node.Node.TheVariants as nodes
 use Rattle.table_model.specs.declared.event.Event.TheVariants as events
 use Rattle.step_tables.specs.Facts.{Answer}
+use Rattle.step_tables.specs.Facts as facts
 use Rattle.step_tables.specs.Members.{Among}
 use Rattle.step_tables.specs.Messages.{Message, Luck, SyncRequest, SyncResponse, PullRequest, PullResponse, TornRowRequest, TornRowResponse, table_of}
 use Rattle.step_tables.specs.Messages as messages
@@ -13,6 +14,7 @@ use Rattle.step_tables.specs.ClientMoves as client
 use Rattle.step_tables.specs.ClientMoves.{TableDisk, ClientDisk, Client, ClientTask, ClientStep, Shape, table_at, seen, client_step, take_step, ignored, response_in, pulled_in, torn_in, phases_by}
 use Rattle.world_tables.specs.World.{World, Packet, Moved, WorldStep, Lucks, schema_at, client_at, is_cut, answering, unless_down, unless_cut, and_then}
 use Rattle.world_tables.specs.World.{after_client, moved_client, move_there, move_client, client_follows_from, first_luck, other_lucks, reads, calls, call_there, to_there, carried}
+use Rattle.world_tables.specs.World.{is_closed, is_closed_in, idle_answer, closed_answer, unless_closed}
 use Rattle.part_tables.specs.Parts.{Part, Asks, Responds, Pulls, Answers, BringsUp, BringsDown, AsksTorn, AnswersTorn}
 use Rattle.part_tables.specs.ClientParts.{Taken, Whole, Tears, Waits}
 use Rattle.part_tables.specs.Arriving.{Arrived, arrived}
@@ -51,25 +53,47 @@ module _ (w : World) (c : ℕ) (shape : Shape) (lucks : List Luck) (node : Clien
       ∙ ap (λ (x : Moved). answering (client_step c shape node (client.Take n)).answer (and_then x (client_follows_from node.agenda c rest)))
       (ap (move_there w c (client.Take m) shape) there ∙ (moved_same same ∙ sym (ap (move_there w c (client.Take n) shape) there)))
 
-  abbrev past : Bool → WorldStep → WorldStep
-  past cut s = unless_down w (nodes.Client c) (reads w c (first_luck lucks) (unless_cut w (cut && true) s))
+  -- what a message of a table comes to
+  abbrev past : Bool → Bool → WorldStep → WorldStep
+  past closed cut s = unless_down w (nodes.Client c)
+      (reads w c (first_luck lucks) (unless_closed w closed (if cut then facts.Refuses facts.Offline else idle_answer shape node.agenda) (unless_cut w (cut && true) s)))
 
-  pub taken_same : client_at w c ≡ Some node → client_step c shape node (client.Take m) ≡ client_step c shape node (client.Take n)
-      → call_there w c (client.Take m) shape lucks (Some node) ≡ call_there w c (client.Take n) shape lucks (Some node)
-  taken_same there same = ap (past (is_cut w c)) (called_same there same (other_lucks lucks))
+  abbrev closed_to : ℕ → Bool
+  closed_to table = is_closed node (Some table)
 
-  -- with its link down, and where a read fails
-  pub cut_same : is_cut w c ≡ true → call_there w c (client.Take m) shape lucks (Some node) ≡ call_there w c (client.Take n) shape lucks (Some node)
-  cut_same cut =
-      ap (λ (b : Bool). past b (calls w c (client.Take m) shape (other_lucks lucks) node)) cut
-      ∙ sym (ap (λ (b : Bool). past b (calls w c (client.Take n) shape (other_lucks lucks) node)) cut)
+  -- both are of one table
+  module _ (tables : table_of m ≡ table_of n) where
+    of_table : (s : WorldStep) → past (closed_to (table_of m)) (is_cut w c) s ≡ past (closed_to (table_of n)) (is_cut w c) s
+    of_table s = ap (λ (table : ℕ). past (closed_to table) (is_cut w c) s) tables
 
+    pub taken_same : client_at w c ≡ Some node → client_step c shape node (client.Take m) ≡ client_step c shape node (client.Take n)
+        → call_there w c (client.Take m) shape lucks (Some node) ≡ call_there w c (client.Take n) shape lucks (Some node)
+    taken_same there same =
+        of_table (calls w c (client.Take m) shape (other_lucks lucks) node) ∙ ap (past (closed_to (table_of n)) (is_cut w c)) (called_same there same (other_lucks lucks))
+
+    -- with its link down
+    pub cut_same : is_cut w c ≡ true → call_there w c (client.Take m) shape lucks (Some node) ≡ call_there w c (client.Take n) shape lucks (Some node)
+    cut_same cut =
+        of_table (calls w c (client.Take m) shape (other_lucks lucks) node)
+        ∙ (ap (λ (b : Bool). past (closed_to (table_of n)) b (calls w c (client.Take m) shape (other_lucks lucks) node)) cut
+        ∙ sym (ap (λ (b : Bool). past (closed_to (table_of n)) b (calls w c (client.Take n) shape (other_lucks lucks) node)) cut))
+
+    -- where the table is closed
+    pub closed_same : closed_to (table_of n) ≡ true → call_there w c (client.Take m) shape lucks (Some node) ≡ call_there w c (client.Take n) shape lucks (Some node)
+    closed_same closed =
+        of_table (calls w c (client.Take m) shape (other_lucks lucks) node)
+        ∙ (ap (λ (b : Bool). past b (is_cut w c) (calls w c (client.Take m) shape (other_lucks lucks) node)) closed
+        ∙ sym (ap (λ (b : Bool). past b (is_cut w c) (calls w c (client.Take n) shape (other_lucks lucks) node)) closed))
+
+  -- where a read fails
   pub unread_same : first_luck lucks ≢ messages.Done → call_there w c (client.Take m) shape lucks (Some node) ≡ call_there w c (client.Take n) shape lucks (Some node)
   unread_same fails = ap (unless_down w (nodes.Client c)) (go (first_luck lucks) fails)
     where
       go : (luck : Luck) → luck ≢ messages.Done
-          → reads w c luck (unless_cut w (is_cut w c && true) (calls w c (client.Take m) shape (other_lucks lucks) node))
-          ≡ reads w c luck (unless_cut w (is_cut w c && true) (calls w c (client.Take n) shape (other_lucks lucks) node))
+          → reads w c luck (unless_closed w (closed_to (table_of m)) (closed_answer shape (is_cut w c) node.agenda (client.Take m))
+          (unless_cut w (is_cut w c && true) (calls w c (client.Take m) shape (other_lucks lucks) node)))
+          ≡ reads w c luck (unless_closed w (closed_to (table_of n)) (closed_answer shape (is_cut w c) node.agenda (client.Take n))
+          (unless_cut w (is_cut w c && true) (calls w c (client.Take n) shape (other_lucks lucks) node)))
       go messages.Done f = absurd (f refl)
       go messages.FailedBefore f = refl
       go messages.FailedAfter f = refl
@@ -133,7 +157,7 @@ module _ (v : Wire) (g : IsGround v.world) (k : IsKept v) (number : ℕ) (p : Pa
         ∙ (is ∙ sym (ap (to_there v.world c q.message lucks.shape lucks.calls) there)))
 
     by_step : client_step c lucks.shape node (client.Take (any_of table)) ≡ client_step c lucks.shape node (client.Take q.message) → Comes v (events.Deliver number) (untaken v p lucks)
-    by_step is = at_client (taken_same v.world c lucks.shape lucks.calls node (any_of table) q.message there is)
+    by_step is = at_client (taken_same v.world c lucks.shape lucks.calls node (any_of table) q.message (sym same) there is)
 
     module _ (idle : node.agenda ≡ Some []) (opened : TableDisk) (is_there : table_at (seen node.disk) table ≡ Some opened) where
       abbrev sent : SentDown
@@ -163,6 +187,7 @@ module _ (v : Wire) (g : IsGround v.world) (k : IsKept v) (number : ℕ) (p : Pa
         pub stands : Among v.world.packets packet
         pub to : packet.to ≡ nodes.Client c
         pub fit : IsFit (schema_at v.world) p.from m
+        pub tables : table_of m ≡ table_of packet.message
         pub step : (shape : Shape) → client_step c shape node (client.Take m) ≡ client_step c shape node (client.Take packet.message)
 
       alike_step : (t : ℕ) (m n : Message) → t ≡ table → AreTakenAlike t opened m n → (shape : Shape) → client_step c shape node (client.Take m) ≡ client_step c shape node (client.Take n)
@@ -177,6 +202,7 @@ module _ (v : Wire) (g : IsGround v.world) (k : IsKept v) (number : ℕ) (p : Pa
             stands = r.stands;
             to = r.to;
             fit = answer_fits (schema_at v.world) p.from a.answer m (subst (IsFit (schema_at v.world) r.packet.from) r.message (g.fits r.packet r.stands)) a.of_it;
+            tables = a.to_table ∙ sym (ap table_of r.message ∙ a.table_is);
             step = λ shape. alike_step t m (PullResponse a.answer) is a.alike shape ∙ ap (λ (y : Message). client_step c shape node (client.Take y)) (sym r.message);
           }
 
@@ -188,6 +214,7 @@ module _ (v : Wire) (g : IsGround v.world) (k : IsKept v) (number : ℕ) (p : Pa
             stands = r.stands;
             to = r.to;
             fit = whole_row_fits (schema_at v.world) p.from a.answer m (subst (IsFit (schema_at v.world) r.packet.from) r.message (g.fits r.packet r.stands)) a.of_it;
+            tables = a.to_table ∙ sym (ap table_of r.message ∙ a.table_is);
             step = λ shape. alike_step t m (TornRowResponse a.answer) is a.alike shape ∙ ap (λ (y : Message). client_step c shape node (client.Take y)) (sym r.message);
           }
 
@@ -197,6 +224,7 @@ module _ (v : Wire) (g : IsGround v.world) (k : IsKept v) (number : ℕ) (p : Pa
         stands = h.stands;
         to = sym h.to ∙ here;
         fit = subst (IsFit (schema_at v.world) p.from) (sym is) (subst (λ (f : Node). IsFit (schema_at v.world) f q.message) (sym h.from) (g.fits q h.stands));
+        tables = ap table_of is;
         step = λ shape. ap (λ (y : Message). client_step c shape node (client.Take y)) is;
       }
 
@@ -222,7 +250,7 @@ module _ (v : Wire) (g : IsGround v.world) (k : IsKept v) (number : ℕ) (p : Pa
           brings v number p at lucks v.gathered (with_arriving c x.arriving v).arriving kept t.packet t.stands (t.to ∙ sym here) _
           (ap (carried v.world (whole p m) lucks.shape lucks.calls) here
           ∙ (ap (to_there v.world c m lucks.shape lucks.calls) there
-          ∙ (taken_same v.world c lucks.shape lucks.calls node m t.packet.message there (t.step lucks.shape)
+          ∙ (taken_same v.world c lucks.shape lucks.calls node m t.packet.message t.tables there (t.step lucks.shape)
           ∙ (sym (ap (to_there v.world c t.packet.message lucks.shape lucks.calls) there)
           ∙ ap (carried v.world t.packet lucks.shape lucks.calls) (sym t.to)))))
 
@@ -250,7 +278,12 @@ module _ (v : Wire) (g : IsGround v.world) (k : IsKept v) (number : ℕ) (p : Pa
 
     table_comes : node.agenda ≡ Some [] → (o : Option TableDisk) → table_at (seen node.disk) table ≡ o → Comes v (events.Deliver number) (by_table v c p lucks o)
     table_comes idle None none = by_step (unopened_step c lucks.shape node (any_of table) q.message table refl same idle none)
-    table_comes idle (Some opened) is_there = taken_comes idle opened is_there (arrived opened (arriving_at v c) p.part).taken refl
+    table_comes idle (Some opened) is_there = go opened.closed refl
+      where
+        go : (b : Bool) → opened.closed ≡ b → Comes v (events.Deliver number) (if b then untaken v p lucks else client_taken v c p lucks (arrived opened (arriving_at v c) p.part))
+        go true closed = at_client (closed_same v.world c lucks.shape lucks.calls node (any_of table) q.message (sym same)
+            (ap (λ (t : ℕ). is_closed node (Some t)) same ∙ (ap is_closed_in is_there ∙ closed)))
+        go false opens = taken_comes idle opened is_there (arrived opened (arriving_at v c) p.part).taken refl
 
     agenda_comes : (a : Option (List ClientTask)) → node.agenda ≡ a → Comes v (events.Deliver number) (by_client v c p lucks (Some (record node { agenda = a })))
     agenda_comes None is = by_step (down_step c lucks.shape node (any_of table) q.message is)
@@ -263,7 +296,7 @@ module _ (v : Wire) (g : IsGround v.world) (k : IsKept v) (number : ℕ) (p : Pa
 
   cut_comes : is_cut v.world c ≡ true → (o : Option Client) → client_at v.world c ≡ o → Comes v (events.Deliver number) (untaken v p lucks)
   cut_comes cut None there = client_comes None there
-  cut_comes cut (Some node) there = at_client node there (cut_same v.world c lucks.shape lucks.calls node (any_of table) q.message cut)
+  cut_comes cut (Some node) there = at_client node there (cut_same v.world c lucks.shape lucks.calls node (any_of table) q.message (sym same) cut)
 
   pub at_client_comes : Comes v (events.Deliver number) (brought v p lucks (nodes.Client c))
   at_client_comes = go (is_cut v.world c) refl

@@ -1,5 +1,5 @@
 -- What a node of the wire is handed for a part, as a delivery of a whole packet, and what a delivery comes to.
-use Rattle.std.specs.Prelude.{◌≡◌, ◌≢◌, ◌⊎◌, ℕ, ◌==◌, false, List, slice_get, Option, Some, None}
+use Rattle.std.specs.Prelude.{◌≡◌, ◌≢◌, ◌⊎◌, ℕ, ◌==◌, Bool, false, not, List, slice_get, Option, Some, None}
 use Rattle.stab_base.specs.declared.node.Node.{Node}
 use Rattle.stab_base.specs.declared.node.Node.TheVariants as nodes
 use Rattle.row_value.specs.declared.schema.Schema.{Schema}
@@ -29,7 +29,8 @@ use Rattle.wire_laws.specs.Runs.{AreBuilt}
 
 -- where a message has a row, it is one of its table; and a request is its client's own
 abbrev pub IsFit : (ℕ → Option Schema) → Node → Message → Type 0
-IsFit known from (SyncRequest q) = IsRowOf (known q.table) q.content × IsClient q.client × (from ≡ nodes.Client q.client)
+IsFit known from (SyncRequest q) = IsRowOf (known q.table) q.content × IsClient q.client
+    × (from ≡ nodes.Client q.client)
 IsFit known from (SyncResponse r) = Unit {0}
 IsFit known from (PullRequest pull) = Unit {0}
 IsFit known from (PullResponse pulled) = IsFairHeader known pulled.table pulled.header
@@ -65,11 +66,15 @@ pub record IsSent (v : Wire) (number : ℕ) (p : PartPacket) : Type 0 where
   pub is : v ≡ wire_from start run
   pub at : slice_get v.packets number ≡ Some p
 
--- the client hasn't opened the table
+abbrev pub is_open_in : Option TableDisk → Bool
+is_open_in None = false
+is_open_in (Some table) = not table.closed
+
+-- the client hasn't opened the table, or has closed it since
 pub record IsUnopened (w : World) (c table : ℕ) : Type 0 where
   pub node : Client
   pub there : client_at w c ≡ Some node
-  pub none : table_at (seen node.disk) table ≡ None
+  pub none : is_open_in (table_at (seen node.disk) table) ≡ false
 
 -- the node takes nothing of the table now; a Store that doesn't keep it never does
 abbrev pub TakesNothing : World → ℕ → Node → Type 0
@@ -89,7 +94,7 @@ pub record IsAtStore (v : Wire) (number : ℕ) (p : PartPacket) (hosted : Hosted
   pub whole : (m : Message) → (parted_at v p hosted.store.disk.items).taken ≡ at_store.Whole m
       → IsCarriedAs v.world p.from p.to m
 
--- the same of a client that has the table opened
+-- the same of a client that has the table open
 pub record IsAtClient (v : Wire) (number : ℕ) (p : PartPacket) (c : ℕ) (opened : TableDisk) : Type 0 where
   pub step_is : (lucks : Lucks) → wire_step v (events.Deliver number) lucks
       ≡ client_taken v c p lucks (arrived opened (arriving_at v c) p.part)

@@ -80,7 +80,8 @@ pub fn parts_are_handed_on_as_packets()
         → hosted_at v.world (part_table p.part) ≡ Some hosted → IsAtStore v number p hosted }
     ensures client { (v : Wire) (number : ℕ) (p : PartPacket) → IsSent v number p → (c : ℕ) → p.to ≡ nodes.Client c
         → is_client_ready v.world c ≡ true → (node : Client) → client_at v.world c ≡ Some node → (opened : TableDisk)
-        → table_at (seen node.disk) (part_table p.part) ≡ Some opened → IsAtClient v number p c opened }
+        → table_at (seen node.disk) (part_table p.part) ≡ Some opened → opened.closed ≡ false
+        → IsAtClient v number p c opened }
 {}
 
 /// Where a part comes to a node that would take it, and the node's first device call fails, the node falls, whatever

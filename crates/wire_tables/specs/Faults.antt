@@ -10,6 +10,7 @@ use Rattle.wire_tables.specs.Wire.{Wire, wire_step}
 -- whether a device fault shows in an event, as in the world of whole messages
 abbrev pub is_wire_fault : Wire → Event → Lucks → Bool
 is_wire_fault v (events.Table table schema) lucks = is_device_fault v.world (events.Table table schema) lucks
+is_wire_fault v (events.Draft table schema) lucks = is_device_fault v.world (events.Draft table schema) lucks
 is_wire_fault v (events.Client c gate tables) lucks = is_device_fault v.world (events.Client c gate tables) lucks
 is_wire_fault v (events.Crash node calls pick) lucks = is_device_fault v.world (events.Crash node calls pick) lucks
 is_wire_fault v event lucks = is_fault_answer (wire_step v event lucks).answer

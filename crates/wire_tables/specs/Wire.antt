@@ -226,7 +226,8 @@ client_taken v c p lucks x = by_taken x.taken
 
 abbrev pub by_table : Wire → ℕ → PartPacket → Lucks → Option TableDisk → WireStep
 by_table v c p lucks None = untaken v p lucks
-by_table v c p lucks (Some opened) = client_taken v c p lucks (arrived opened (arriving_at v c) p.part)
+by_table v c p lucks (Some opened) = if opened.closed then untaken v p lucks
+    else client_taken v c p lucks (arrived opened (arriving_at v c) p.part)
 
 abbrev pub by_client : Wire → ℕ → PartPacket → Lucks → Option Client → WireStep
 by_client v c p lucks None = untaken v p lucks

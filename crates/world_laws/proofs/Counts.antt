@@ -21,6 +21,8 @@ use Rattle.row_value.specs.declared.schema.Scheme.TheVariants.{Strong, Causal, E
 use Rattle.row_value.specs.Fit.{fit_of}
 use Rattle.table_model.specs.declared.event.Event.{Event}
 use Rattle.table_model.specs.declared.event.Event.TheVariants as events
+use Rattle.table_model.specs.declared.table_state.TableState.{TableState}
+use Rattle.table_model.specs.declared.table_state.TableState.TheVariants as states
 use Rattle.table_model.specs.declared.line.RowPair.{RowPair}
 use Rattle.conflicts.specs.declared.pair.Choice.{Choice}
 use Rattle.conflicts.specs.declared.pair.Choice.TheVariants as choices
@@ -36,9 +38,10 @@ use Rattle.step_tables.specs.Messages.{Request, Response, Pulled, Header, Pair, 
 use Rattle.step_tables.specs.Messages.{TornPulled, TornRowRequest, TornRowResponse, table_of}
 use Rattle.step_tables.specs.Messages as messages
 use Rattle.step_tables.specs.StoreMoves as store
-use Rattle.step_tables.specs.StoreMoves.{StoreDisk, StoreChange, StoreTask, TableStore, StoreMove, store_step}
+use Rattle.step_tables.specs.StoreMoves.{StoreDisk, StoreChange, StoreTask, TableStore, StoreMove, SidePut, new_disk, store_step}
 use Rattle.step_tables.specs.ClientMoves as client
-use Rattle.step_tables.specs.ClientMoves.{Slots, TableDisk, RowPut, Plan, ClientDisk, ClientChange, ClientTask, Client, ClientMove, Shape, RowOut, no_shape, slots_at, table_at, seen, client_step}
+use Rattle.step_tables.specs.ClientMoves.{Slots, TableDisk, TableChange, RowPut, Plan, ClientDisk, ClientChange, ClientTask, Client, ClientMove, Shape, RowOut, no_shape}
+use Rattle.step_tables.specs.ClientMoves.{slots_at, table_at, seen, client_step}
 use Rattle.world_tables.specs.World.{client_until_idle, client_writes, starts_by, client_starts, client_falls, Lucks, first_agenda, with_link, linked, listed, resolve_by}
 use Rattle.world_tables.specs.World.{resolve_each, resolve_all, chosen_of, client_pairs, first_shape, other_shapes, plan_size, owner_of, has_store, hosted_by}
 use Rattle.world_tables.specs.World.{World, Packet, Hosted, Moved, WorldStep, start, hosted_at, client_at, schema_at, scheme_in, chunk_in, is_down, has_node, tables_of}
@@ -47,8 +50,9 @@ use Rattle.world_tables.specs.World.{client_tasks, client_follows, tables_fall, 
 use Rattle.world_tables.specs.World.{store_until_idle, store_follows, table_follows, declared_late, start_hosted, table_starts, tables_start, store_starts, crash_luck, table_crashes}
 use Rattle.world_tables.specs.World.{store_crashes, answering, answered, refused, unless_down, agenda_of, with_table, declared, open_all, new_client, joined, gets_tasks, call_there, call}
 use Rattle.world_tables.specs.World.{take_read, take_at, to_hosted, to_there, carried, delivered, row_read, store_shows, chunk_names, history_lines, worked, all_worked, crashed, started}
-use Rattle.world_tables.specs.World.{step}
+use Rattle.world_tables.specs.World.{puts_beside, opens, created, dropped, step}
 use Rattle.world_tables.specs.Turns.{Happening, world_from}
+use Rattle.client_laws.proofs.Disks.{altered_last, altered_plan}
 use Rattle.world_laws.specs.Begun.{begun_by, begun_from, begun_in, IsSingle, AreSingle}
 use Rattle.world_laws.proofs.Looks.{look_cases}
 use Rattle.world_laws.proofs.Calls.{call_is}
@@ -98,6 +102,8 @@ recovering_puts node table d =
 
 changed_items : (d : StoreDisk) (change : StoreChange) → length (store.changed d change).items ≡ length d.items + puts_by change
 changed_items d (store.Put item named old) = length-append d.items (item ∷ [])
+changed_items d (store.PutBeside (store.PutState state)) = omega arith
+changed_items d (store.PutBeside (store.PutSub c terms)) = omega arith
 changed_items d other = omega arith
 
 done_few : (d : StoreDisk) (agenda : Option (List StoreTask)) → versions_of (store.done d agenda).store ≤ length d.items + puts_in (tasks_in agenda)
@@ -165,6 +171,11 @@ module _ (x : Scheme) (size table : ℕ) (d : StoreDisk) where
   taken_few (Some []) from (TornRowRequest q) = omega arith
   taken_few (Some []) from (TornRowResponse q) = omega arith
 
+  placed_few : (agenda : Option (List StoreTask)) (put : SidePut) → versions_of (store.placed table d agenda put).store ≤ length d.items + puts_in (tasks_in agenda)
+  placed_few None put = omega arith
+  placed_few (Some (task ∷ more)) put = omega arith
+  placed_few (Some []) put = omega arith
+
 -- a message brings one version at most, and no other move brings any
 abbrev brings : StoreMove → ℕ
 brings (store.Take from message) = 1
@@ -172,6 +183,7 @@ brings other = 0
 
 table_few : (node : ℕ) (x : Scheme) (size table : ℕ) (s : TableStore) (move : StoreMove) → versions_of (store_step node x size table s move).store ≤ versions_of s + brings move
 table_few node x size table s (store.Take from m) = taken_few x size table s.disk s.agenda from m
+table_few node x size table s (store.Place put) = let e = placed_few x size table s.disk s.agenda put in omega (arith, e)
 table_few node x size table s (store.Work luck) = let e = worked_few s.disk s.agenda luck in omega (arith, e)
 table_few node x size table s (store.Crash luck) = let e = crashed_few s.disk s.agenda luck in omega (arith, e)
 table_few node x size table s store.Start = let e = started_few node table s.disk s.agenda in omega (arith, e)
@@ -231,8 +243,12 @@ module _ (n : ℕ) where
       go : (o : Option RowPut) → DiskUpTo n (client.row_put d p.last p.table o)
       go None = few
       go (Some x) = there x (table_at d p.table)
-  changed_up_to d (client.PutTable p) few here = go p.position
+  changed_up_to d (client.PutTable p) few here = puts p.alters
     where
+      alters : (change : TableChange) → DiskUpTo n (client.altered d p.table change)
+      alters change =
+          (subst (λ (m : ℕ). m ≤ n) (sym (altered_last d p.table change)) few.0, subst (λ (o : Option Plan). PlanUpTo n o) (sym (altered_plan d p.table change)) few.1)
+
       there : (position : ℕ) (o : Option TableDisk) → DiskUpTo n (client.with_table d p.table o (client.put_position position))
       there position None = few
       there position (Some opened) = few
@@ -240,6 +256,10 @@ module _ (n : ℕ) where
       go : (o : Option ℕ) → DiskUpTo n (client.table_put d p.table o)
       go None = few
       go (Some position) = there position (table_at d p.table)
+
+      puts : (o : Option TableChange) → DiskUpTo n (client.put_of d p o)
+      puts None = go p.position
+      puts (Some change) = alters change
   changed_up_to d client.Finish few here = (few.0, tt)
   changed_up_to d (client.Keep step) few here = few
 
@@ -266,7 +286,7 @@ module _ (n : ℕ) where
   keeps_up_to (step ∷ steps) more few = (tt, keeps_up_to steps more few)
 
   rest_up_to : (shape : Shape) (p : Plan) (sends : List Send) → p.last ≤ n → TasksUpTo n (client.rest_of shape p sends)
-  rest_up_to shape p sends few = go p.row p.position
+  rest_up_to shape p sends few = puts p.alters
     where
       last : List ClientTask
       last = client.keeps shape.after ++ record { change = client.Finish; facts = []; sends = sends } ∷ []
@@ -281,6 +301,10 @@ module _ (n : ℕ) where
       go : (r : Option RowPut) (o : Option ℕ) → TasksUpTo n (client.row_task p r ++ (client.table_task p o ++ last))
       go None o = table o
       go (Some x) o = (few, table o)
+
+      puts : (o : Option TableChange) → TasksUpTo n (client.put_tasks p o last)
+      puts None = go p.row p.position
+      puts (Some change) = (tt, ends)
 
   begun_up_to : (shape : Shape) (d : ClientDisk) (answer : Answer) (p : Plan) (sends : List Send) → DiskUpTo n d → p.last ≤ n → IsUpTo n (client.begun shape d answer p sends).client
   begun_up_to shape d answer p sends few here = (few, keeps_up_to shape.before _ (here, rest_up_to shape p sends here))
@@ -526,6 +550,16 @@ module _ (n c : ℕ) (shape : Shape) (d : ClientDisk) (few : DiskUpTo n d) where
       there None = (few, tasks)
       there (Some opened) = fitting opened (client.can_resolve opened.schema by)
 
+  -- nor does a table that is opened or closed
+  alter_up_to : (agenda : Option (List ClientTask)) → TasksUpTo n (tasks_in agenda) → (table : ℕ) (change : TableChange) → IsUpTo n (client.alter_step c shape d agenda table change).client
+  alter_up_to None tasks table change = (few, tt)
+  alter_up_to (Some (task ∷ more)) tasks table change = (few, tasks)
+  alter_up_to (Some []) tasks table change = go (client.may_alter change (table_at (seen d) table))
+    where
+      go : (b : Bool) → IsUpTo n (if b then client.begun shape d facts.Done (client.alter_plan c d table change) [] else client.ignored d).client
+      go true = begun_up_to n shape d facts.Done (client.alter_plan c d table change) [] few few.0
+      go false = (few, tt)
+
 -- a device write, a crash and a start draw no number
 abbrev IsNoCall : ClientMove → Type 0
 IsNoCall (client.Work luck) = Unit {0}
@@ -562,6 +596,7 @@ module _ (n c : ℕ) (shape : Shape) where
   no_call_up_to s (client.EndCr table) none few = absurd none
   no_call_up_to s (client.Resolve table row seen choice) none few = absurd none
   no_call_up_to s (client.ResolveAll table by) none few = absurd none
+  no_call_up_to s (client.Alter table change) none few = absurd none
   no_call_up_to s (client.Take message) none few = absurd none
 
 -- ---- a world whose tables have at most so many versions, and whose clients have drawn numbers up to this one
@@ -695,7 +730,8 @@ module _ (n m : ℕ) where
       go None = few
       go (Some hosted) = made hosted.made
         where
-          made : (b : Bool) → AreFew n m (if b then move_table table store.Start w else after_table w table (record hosted { made = true }) (declared_late (owner_of w table) table)).world
+          made : (b : Bool) → AreFew n m (if b then move_table table store.Start w
+              else after_table w table (record hosted { made = true }) (declared_late (owner_of w table) table hosted.store.disk.state)).world
           made true = move_few n n m w table store.Start (omega arith) few
           made false = (put_table n w.tables table _ few.0 (omega arith), few.1)
 
@@ -754,7 +790,7 @@ module _ (n m : ℕ) (w : World) (few : AreFew n m w) where
   call_few : (c : ℕ) (move : ClientMove) (shape : Shape) (lucks : List Luck) → ((node : Client) → client_at w c ≡ Some node → IsUpTo m (client_step c shape node move).client)
       → (o : Option Client) → client_at w c ≡ o → AreFew n m (call_there w c move shape lucks o).world
   call_few c move shape lucks most o at =
-      call_is (λ (x : WorldStep). AreFew n m x.world) w c move shape lucks (λ r before. few) (fallen_few c)
+      call_is (λ (x : WorldStep). AreFew n m x.world) w c move shape lucks (λ r before. few) (fallen_few c) (λ take. few)
       (λ node is. follows (gets_tasks node.agenda (move_client c move shape w).world c)) o at
     where
       follows : (b : Bool) → AreFew n m (if b then client_follows c (other_lucks lucks) (move_client c move shape w).world else still (move_client c move shape w).world).world
@@ -896,25 +932,26 @@ module _ (n m : ℕ) (w : World) (few : AreFew n m w) where
 
   -- ---- deliveries
 
-  hosted_few : (table : ℕ) (from : Node) (message : Message) (lucks : List Luck) (o : Option Hosted) → AreFew (n + 1) (m + 1) (to_hosted w table (store.Take from message) lucks o).world
-  hosted_few table from message lucks None = after
-  hosted_few table from message lucks (Some hosted) = go hosted.store.agenda
+  hosted_few : (table : ℕ) (move : StoreMove) (lucks : List Luck) → brings move ≤ 1 → (o : Option Hosted) → AreFew (n + 1) (m + 1) (to_hosted w table move lucks o).world
+  hosted_few table move lucks less None = after
+  hosted_few table move lucks less (Some hosted) = go hosted.store.agenda
     where
-      first : AreFew (n + 1) (m + 1) (move_table table (store.Take from message) w).world
-      first = move_few n (n + 1) (m + 1) w table (store.Take from message) (omega arith) (few.0, after.1)
+      first : AreFew (n + 1) (m + 1) (move_table table move w).world
+      first = move_few n (n + 1) (m + 1) w table move (omega (arith, less)) (few.0, after.1)
 
-      reads : (luck : Luck) → AreFew (n + 1) (m + 1) (take_read w table hosted (store.Take from message) (other_lucks lucks) luck).world
+      reads : (luck : Luck) → AreFew (n + 1) (m + 1) (take_read w table hosted move (other_lucks lucks) luck).world
       reads messages.FailedBefore = store_falls_few (n + 1) (m + 1) (owner_of w table) w after
       reads messages.FailedAfter = store_falls_few (n + 1) (m + 1) (owner_of w table) w after
-      reads messages.Done = table_follows_few (n + 1) (m + 1) table (other_lucks lucks) (move_table table (store.Take from message) w).world first
+      reads messages.Done = table_follows_few (n + 1) (m + 1) table (other_lucks lucks) (move_table table move w).world first
 
-      go : (o : Option (List StoreTask)) → AreFew (n + 1) (m + 1) (take_at w table hosted (store.Take from message) lucks o).world
+      go : (o : Option (List StoreTask)) → AreFew (n + 1) (m + 1) (take_at w table hosted move lucks o).world
       go None = first
       go (Some (task ∷ more)) = first
       go (Some []) = reads (first_luck lucks)
 
   carried_few : (p : Packet) (shape : Shape) (lucks : List Luck) (to : Node) → AreFew (n + 1) (m + 1) (carried w p shape lucks to).world
-  carried_few p shape lucks (nodes.Store number) = down_few (nodes.Store number) _ (hosted_few (table_of p.message) p.from p.message lucks (hosted_by w number (table_of p.message)))
+  carried_few p shape lucks (nodes.Store number) =
+      down_few (nodes.Store number) _ (hosted_few (table_of p.message) (store.Take p.from p.message) lucks (omega arith) (hosted_by w number (table_of p.message)))
   carried_few p shape lucks (nodes.Gate gate) = after
   carried_few p shape lucks (nodes.Client c) = go (client_at w c) refl
     where
@@ -929,18 +966,18 @@ module _ (n m : ℕ) (w : World) (few : AreFew n m w) where
 
   -- ---- declarations, and what the Store has
 
-  declared_few : (table : ℕ) (schema : Schema) (luck : Luck) (o : Option Hosted) → AreFew (n + 1) (m + 1) (declared w table schema luck o)
-  declared_few table schema luck (Some hosted) = after
-  declared_few table schema luck None = go luck
+  declared_few : (table : ℕ) (schema : Schema) (state : TableState) (luck : Luck) (o : Option Hosted) → AreFew (n + 1) (m + 1) (declared w table schema state luck o)
+  declared_few table schema state luck (Some hosted) = after
+  declared_few table schema state luck None = go luck
     where
-      with_new : (made : Bool) → AreFew (n + 1) (m + 1) (with_table w table schema made)
+      with_new : (made : Bool) → AreFew (n + 1) (m + 1) (with_table w table schema state made)
       with_new made = (put_table (n + 1) w.tables table _ after.0 (none made), after.1)
         where
-          none : (b : Bool) → versions_of (record { disk = record { items = []; pending = None; left = [] }; agenda = agenda_of b }) ≤ n + 1
+          none : (b : Bool) → versions_of (record { disk = new_disk state; agenda = agenda_of b }) ≤ n + 1
           none true = omega arith
           none false = omega arith
 
-      go : (x : Luck) → AreFew (n + 1) (m + 1) (declared w table schema x None)
+      go : (x : Luck) → AreFew (n + 1) (m + 1) (declared w table schema state x None)
       go messages.Done = with_new true
       go messages.FailedBefore = with_new false
       go messages.FailedAfter = with_new false
@@ -1014,10 +1051,34 @@ module _ (n m : ℕ) (w : World) (few : AreFew n m w) where
       go true = store_starts_few (n + 1) (m + 1) number lucks w after
       go false = after
 
+  -- ---- a table is made, or dropped
+
+  puts_few : (number table : ℕ) (put : SidePut) (lucks : List Luck) → AreFew (n + 1) (m + 1) (puts_beside w number table put lucks).world
+  puts_few number table put lucks = down_few (nodes.Store number) _ (hosted_few table (store.Place put) lucks (omega arith) (hosted_by w number table))
+
+  alter_event : (c table : ℕ) (change : TableChange) (shape : Shape) (lucks : List Luck) → AreFew (n + 1) (m + 1) (call w c (client.Alter table change) shape lucks).world
+  alter_event c table change shape lucks = call_few (n + 1) (m + 1) w after c (client.Alter table change) shape lucks
+      (λ node at. let old : IsUpTo (m + 1) node = after.1 c node at in alter_up_to (m + 1) c shape node.disk old.0 node.agenda old.1 table change) (client_at w c) refl
+
+  created_few : (table : ℕ) (shape : Shape) (lucks : List Luck) (node : Node) → AreFew (n + 1) (m + 1) (created w table shape lucks node).world
+  created_few table shape lucks (nodes.Store number) = puts_few number table (store.PutState states.Live) lucks
+  created_few table shape lucks (nodes.Gate gate) = after
+  created_few table shape lucks (nodes.Client c) = opened (schema_at w table)
+    where
+      opened : (o : Option Schema) → AreFew (n + 1) (m + 1) (opens w c table shape lucks o).world
+      opened None = after
+      opened (Some schema) = alter_event c table (client.Opens schema) shape lucks
+
+  dropped_few : (table : ℕ) (shape : Shape) (lucks : List Luck) (node : Node) → AreFew (n + 1) (m + 1) (dropped w table shape lucks node).world
+  dropped_few table shape lucks (nodes.Store number) = puts_few number table (store.PutState states.Dropped) lucks
+  dropped_few table shape lucks (nodes.Gate gate) = after
+  dropped_few table shape lucks (nodes.Client c) = alter_event c table client.Closes shape lucks
+
   step_few : (event : Event) (lucks : Lucks) → AreFew (n + 1) (m + begun_by w event) (step w event lucks).world
   step_few (events.Store number) lucks = after
   step_few (events.Gate number) lucks = after
-  step_few (events.Table table schema) lucks = declared_few table schema (first_luck lucks.calls) (hosted_at w table)
+  step_few (events.Table table schema) lucks = declared_few table schema states.Live (first_luck lucks.calls) (hosted_at w table)
+  step_few (events.Draft table schema) lucks = declared_few table schema states.Draft (first_luck lucks.calls) (hosted_at w table)
   step_few (events.Client c gate tables) lucks = joined_few c tables (first_luck lucks.calls) (client_at w c)
   step_few (events.Write c table row x) lucks = write_event c table row x lucks.shape lucks.calls
   step_few (events.Edit c table row x) lucks = edit_event c table row x lucks.shape lucks.calls
@@ -1031,6 +1092,8 @@ module _ (n m : ℕ) (w : World) (few : AreFew n m w) where
   step_few (events.EndCr c table) lucks = end_event c table lucks.shape lucks.calls
   step_few (events.Resolve c table row version choice) lucks = resolve_event c table row version choice lucks.shape lucks.calls
   step_few (events.ResolveAll c table by) lucks = resolve_all_event c table by lucks.shape lucks.shapes lucks.calls (other_lucks lucks.calls)
+  step_few (events.Create node table) lucks = created_few table lucks.shape lucks.calls node
+  step_few (events.Drop node table) lucks = dropped_few table lucks.shape lucks.calls node
   step_few (events.Deliver packet) lucks = delivered_few lucks.shape lucks.calls (slice_get w.packets packet)
   step_few (events.StoreShow table row) lucks = shows_few table row lucks.calls (hosted_at w table)
   step_few (events.History table) lucks = history_few table (hosted_at w table)
@@ -1101,7 +1164,11 @@ put_last n d table (Some position) few = subst (λ (m : ℕ). m ≤ n) (sym (wit
 
 planned_last : (n : ℕ) (d : ClientDisk) (plan : Option Plan) → d.last ≤ n → PlanUpTo n plan → (client.planned_in d plan).last ≤ n
 planned_last n d None few new = few
-planned_last n d (Some p) few new = put_last n (client.row_put d p.last p.table p.row) p.table p.position (row_last n d p.last p.table p.row few new)
+planned_last n d (Some p) few new = behind p.alters
+  where
+    behind : (o : Option TableChange) → (client.applied_by p d o).last ≤ n
+    behind None = put_last n (client.row_put d p.last p.table p.row) p.table p.position (row_last n d p.last p.table p.row few new)
+    behind (Some change) = subst (λ (m : ℕ). m ≤ n) (sym (altered_last d p.table change)) few
 
 pub seen_begun : (run : List Happening) (c : ℕ) (node : Client) → client_at (world_from start run) c ≡ Some node → (seen node.disk).last ≤ begun_in run
 seen_begun run c node at = let few = ((behind_few run).1 c node at).0 in planned_last (begun_in run) node.disk node.disk.plan few.0 few.1

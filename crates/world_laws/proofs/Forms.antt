@@ -26,9 +26,10 @@ use Rattle.stab_base.specs.declared.node.Node.{Node}
 use Rattle.step_tables.specs.Store.{current_of}
 use Rattle.step_tables.specs.Chunks.{is_named, is_spelled}
 use Rattle.step_tables.specs.StoreMoves as store
-use Rattle.step_tables.specs.StoreMoves.{StoreDisk, StoreTask}
+use Rattle.step_tables.specs.StoreMoves.{StoreDisk, StoreTask, SidePut}
 use Rattle.step_tables.specs.ClientMoves.{Slots, TableDisk, ClientDisk, ClientTask, Shape, RowOut, slots_at, table_at, seen, shown_in, show_answer, show_in, write_step, write_to}
 use Rattle.step_tables.specs.ClientMoves.{write_fitting, content_of, edit_made, edit_over, edit_in, edit_step}
+use Rattle.step_tables.specs.ClientMoves.{TableChange, alter_plan, may_alter, alter_step}
 use Rattle.step_tables.specs.ClientMoves.{ignored, pull_from, torn_plan, torn_row_taken, torn_taken, torn_in}
 use Rattle.step_tables.specs.ClientMoves.{write_idle, write_free, write_by, write_strong, first_out, show_step, sync_step, sync_in, sync_first, resent, first_to_send, next_step, next_in, take_step}
 use Rattle.step_tables.specs.ClientMoves.{refused, phase_in, phase_step, choose, over_fitting, resolve_over, resolve_in, resolve_step, can_resolve, all_idle, all_fitting, all_in, all_step}
@@ -229,6 +230,17 @@ module _ (c : ℕ) (shape : Shape) (d : ClientDisk) where
   all_form None table by = tt
   all_form (Some agenda) table by = all_in_form agenda by (table_at (seen d) table)
 
+  -- ---- a table that is opened or closed
+
+  pub alter_form : (agenda : Option (List ClientTask)) (table : ℕ) (change : TableChange) → IsDone (alter_step c shape d agenda table change).answer
+  alter_form None table change = tt
+  alter_form (Some (task ∷ more)) table change = tt
+  alter_form (Some []) table change = go (may_alter change (table_at (seen d) table))
+    where
+      go : (b : Bool) → IsDone (if b then begun shape d facts.Done (alter_plan c d table change) [] else ignored d).answer
+      go true = tt
+      go false = tt
+
   -- ---- messages
 
   outcome_form : (table : ℕ) (row : List ℕ) (opened : TableDisk) (slots : Slots) (out : InFlight) (o : Outcome) → IsDone (outcome_taken c shape d table row opened slots out o).answer
@@ -348,3 +360,8 @@ taken_form g size table d (Some []) from (SyncResponse q) = tt
 taken_form g size table d (Some []) from (PullResponse q) = tt
 taken_form g size table d (Some []) from (TornRowRequest q) = tt
 taken_form g size table d (Some []) from (TornRowResponse q) = tt
+
+pub placed_form : (table : ℕ) (d : StoreDisk) (agenda : Option (List StoreTask)) (put : SidePut) → IsDone (store.placed table d agenda put).answer
+placed_form table d None put = tt
+placed_form table d (Some (task ∷ more)) put = tt
+placed_form table d (Some []) put = tt

@@ -8,12 +8,13 @@ use Rattle.row_value.specs.declared.schema.Scheme.{Scheme}
 use Rattle.row_value.specs.declared.schema.Scheme.TheVariants.{Strong, Causal, Eventual}
 use Rattle.table_model.specs.declared.entry.Entry.{Entry}
 use Rattle.table_model.specs.declared.line.Write.{Write}
+use Rattle.table_model.specs.declared.table_state.TableState.{TableState}
 use Rattle.step_tables.specs.Store.{Stored, entries_of}
 use Rattle.step_tables.specs.Facts.{Fact, Answer, Line}
 use Rattle.step_tables.specs.Members.{Among}
 use Rattle.step_tables.specs.Messages.{Request, Response, Pulled, TornPulled, Message, SyncRequest, SyncResponse, PullRequest, PullResponse, TornRowRequest, TornRowResponse}
 use Rattle.step_tables.specs.Sayings.{Heard, nothing_heard, Said, hear_lines, write_of}
-use Rattle.step_tables.specs.StoreMoves.{TableStore}
+use Rattle.step_tables.specs.StoreMoves.{TableStore, new_disk}
 use Rattle.step_tables.specs.ClientMoves.{Client}
 use Rattle.step_tables.specs.Items.{IsBase}
 use Rattle.store_laws.specs.Part.{Known, IsLawful, StorePart, IsWayTo}
@@ -70,8 +71,8 @@ abbrev pub IsFairPacket : (ℕ → Scheme) → (ℕ → Heard) → Items → (�
 IsFairPacket g heard h sent p = IsFairMessage g heard h sent p.from p.to p.message
 
 -- a table whose declaration failed: it has nothing, and is down
-abbrev pub nothing_there : TableStore
-nothing_there = record { disk = record { items = []; pending = None; left = [] }; agenda = None }
+abbrev pub nothing_there : TableState → TableStore
+nothing_there state = record { disk = new_disk state; agenda = None }
 
 pub record Kept (g : ℕ → Scheme) (w : World) (s : Said) : Type 0 where
   pub items : Items
@@ -84,7 +85,7 @@ pub record Kept (g : ℕ → Scheme) (w : World) (s : Said) : Type 0 where
   pub tables : (table : ℕ) → IsLawful (g table) (KnownIn s.heard sent table) (items table)
   pub stores : (table : ℕ) (hosted : Hosted) → hosted_at w table ≡ Some hosted
       → StorePart (g table) table (KnownIn s.heard sent table) (items table) hosted.store × (hosted.history ≡ s.history table)
-  pub unmade : (table : ℕ) (hosted : Hosted) → hosted_at w table ≡ Some hosted → hosted.made ≡ false → hosted.store ≡ nothing_there
+  pub unmade : (table : ℕ) (hosted : Hosted) → hosted_at w table ≡ Some hosted → hosted.made ≡ false → hosted.store ≡ nothing_there hosted.store.disk.state
   pub no_store : (table : ℕ) → hosted_at w table ≡ None → items table ≡ []
   pub clients : (c : ℕ) (node : Client) → client_at w c ≡ Some node → ClientPart g c items (sent c) (s.heard c) node
   pub no_client : (c : ℕ) → client_at w c ≡ None → (s.heard c ≡ nothing_heard) × (sent c ≡ [])

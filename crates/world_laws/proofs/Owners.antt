@@ -279,9 +279,9 @@ start_beside w table = go (hosted_at w table) refl
     go (Some hosted) at = made hosted.made
       where
         made : (b : Bool) → IsBeside (owner_of w table) w
-            (if b then move_table table store.Start w else after_table w table (record hosted { made = true }) (declared_late (owner_of w table) table)).world
+            (if b then move_table table store.Start w else after_table w table (record hosted { made = true }) (declared_late (owner_of w table) table hosted.store.disk.state)).world
         made true = move_beside w table store.Start
-        made false = after_beside w table hosted (record hosted { made = true }) (declared_late (owner_of w table) table) at
+        made false = after_beside w table hosted (record hosted { made = true }) (declared_late (owner_of w table) table hosted.store.disk.state) at
 
 -- ---- a Store that goes down, or up
 

@@ -304,7 +304,7 @@ module _ (g : ℕ → Scheme) (w : World) (s : Said) (k : Kept g w s) (c table :
   all_so shape shapes lucks more =
       call_is (λ (x : WorldStep). IsDoneSo (resolve_all w c table by shapes more x)) w c (client.ResolveAll table by) shape lucks
       (λ r before. record { first = none_resolved w (λ row. refl); all = λ n is. absurd cc })
-      (record { first = none_resolved (client_falls c w).world fallen_kept; all = λ n is. absurd cc })
+      (record { first = none_resolved (client_falls c w).world fallen_kept; all = λ n is. absurd cc }) (λ no. absurd no)
       (λ node at. by_node node at) (client_at w c) refl
     where
       by_node : (node : Client) → client_at w c ≡ Some node → IsDoneSo (resolve_all w c table by shapes more

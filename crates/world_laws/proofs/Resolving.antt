@@ -56,7 +56,7 @@ record Begins (c : ℕ) (shape : Shape) (d : ClientDisk) (table : ℕ) (row : Li
   pub last : ℕ
   pub slots : Slots
   pub told : List ClientFact
-  pub is : step ≡ begun shape d (facts.Number number) (record { last = last; table = table; row = Some (record { row = row; slots = slots }); position = None; facts = told }) []
+  pub is : step ≡ begun shape d (facts.Number number) (record { last = last; table = table; row = Some (record { row = row; slots = slots }); position = None; alters = None; facts = told }) []
   pub written : IsMain x.version (content_for choice main) slots.main
   pub read : slots.shadow ≡ Some x
   pub waits : slots.out ≡ before.out

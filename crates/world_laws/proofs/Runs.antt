@@ -15,6 +15,8 @@ use Rattle.row_value.specs.declared.schema.Scheme.{Scheme}
 use Rattle.table_model.specs.declared.entry.Entry.{Entry}
 use Rattle.table_model.specs.declared.event.Event.{Event}
 use Rattle.table_model.specs.declared.event.Event.TheVariants as events
+use Rattle.table_model.specs.declared.table_state.TableState.{TableState}
+use Rattle.table_model.specs.declared.table_state.TableState.TheVariants as states
 use Rattle.row_edits.specs.declared.change.Edit.{Edit}
 use Rattle.stab_base.specs.declared.step.Step.TheVariants as steps
 use Rattle.conflicts.specs.declared.pair.Choice.{Choice}
@@ -28,9 +30,9 @@ use Rattle.step_tables.specs.Messages.{Message, Luck, SyncRequest, SyncResponse,
 use Rattle.step_tables.specs.Messages as messages
 use Rattle.step_tables.specs.Sayings.{Heard, nothing_heard, Said, nothing_said, hear_lines}
 use Rattle.step_tables.specs.StoreMoves as store
-use Rattle.step_tables.specs.StoreMoves.{StoreDisk, StoreTask, TableStore, StoreMove, StoreStep, store_step}
+use Rattle.step_tables.specs.StoreMoves.{StoreDisk, StoreTask, TableStore, StoreMove, StoreStep, SidePut, new_disk, store_step}
 use Rattle.step_tables.specs.ClientMoves as client
-use Rattle.step_tables.specs.ClientMoves.{TableDisk, ClientDisk, Client, ClientTask, ClientMove, ClientStep, Shape, no_shape, client_step}
+use Rattle.step_tables.specs.ClientMoves.{TableDisk, TableChange, opened_table, ClientDisk, Client, ClientTask, ClientMove, ClientStep, Shape, no_shape, client_step}
 use Rattle.step_tables.proofs.Lists.{among_get, among_none}
 use Rattle.store_laws.specs.Part.{Known, StoreLaw, StorePart, IsWayTo, Runs}
 use Rattle.store_laws.specs.Part as store_part
@@ -45,11 +47,11 @@ use Rattle.world_tables.specs.World.{World, Packet, Hosted, Outbox, Moved, World
 use Rattle.world_tables.specs.World.{after_table, table_step, move_hosted}
 use Rattle.world_tables.specs.World.{move_table, move_there, move_client, first_luck, other_lucks, client_works, client_tasks, client_follows, table_follows, store_falls, declared_late}
 use Rattle.world_tables.specs.World.{start_hosted, has_store, hosted_by}
-use Rattle.world_tables.specs.World.{answering, answered, refused, silent, unless_down, agenda_of, with_table, made_with, declared, opened, with_opened, open_all, new_client, joined, gets_tasks}
+use Rattle.world_tables.specs.World.{answering, answered, refused, silent, unless_down, agenda_of, new_hosted, with_table, made_with, declared, with_opened, open_all, new_client, joined, gets_tasks}
 use Rattle.world_tables.specs.World.{client_follows_from}
 use Rattle.world_tables.specs.World.{call_there, call, take_read, take_at, to_hosted, to_there, carried, delivered}
 use Rattle.world_tables.specs.World.{without_node, busy_table, write_next, tasks_of, store_until_idle, store_crashes, store_starts, busy_step, worked, all_worked, crashed, started, names_on}
-use Rattle.world_tables.specs.World.{names_answer, chunk_names}
+use Rattle.world_tables.specs.World.{names_answer, chunk_names, puts_beside, opens, created, dropped}
 use Rattle.world_tables.specs.World.{row_shown, row_read, store_shows, entry_lines, history_lines, step, lines_of, lines_from, sent_lines}
 use Rattle.world_tables.specs.Turns.{Happening, Turn, turns_from, world_from}
 use Rattle.world_tables.specs.Sound.{scheme_for, ArePairs, IsAnswer, IsForm, IsCounted, IsQuiet, IsAnswered, IsTurn, AreSaid, IsSoundFrom, IsSound, IsStored, shown_of}
@@ -65,10 +67,11 @@ use Rattle.world_laws.proofs.Ups.{IsUp, up_there, start_up, step_up}
 use Rattle.world_laws.proofs.ClientMoves.{ours, client_moves}
 use Rattle.world_laws.proofs.TableMoves.{ClientGrows, LapsedGrows}
 use Rattle.world_laws.proofs.StoreMoves.{table_moves}
-use Rattle.world_laws.proofs.Calls.{IsBefore, call_is}
+use Rattle.world_laws.proofs.Calls.{IsBefore, IsTake, call_is}
 use Rattle.world_laws.proofs.Showings.{show_sum, answer_shows, row_stored}
 use Rattle.world_laws.proofs.Listings.{pairs_are}
-use Rattle.world_laws.proofs.Forms.{IsNumber, IsDone, IsShow, IsShowOrSum, by_number, by_done, phase_form, resolve_form, all_form, sum_form, write_form, edit_form, show_form, sync_form, next_form, take_form, taken_form}
+use Rattle.world_laws.proofs.Forms.{IsNumber, IsDone, IsShow, IsShowOrSum, by_number, by_done, phase_form, resolve_form, all_form, sum_form, write_form, edit_form, show_form, sync_form}
+use Rattle.world_laws.proofs.Forms.{next_form, alter_form, take_form, taken_form, placed_form}
 
 -- what a client's crate gives besides
 abbrev pub ClientLaws : Type 0
@@ -91,23 +94,28 @@ module _ (client_law : ClientLaws) (client_grows : ClientGrows) (lapsed_grows : 
   IsNoStart store.Start = ⊥
   IsNoStart other = Unit {0}
 
-  stays_unmade : (node : ℕ) (x : Scheme) (size table : ℕ) (was : TableStore) (move : StoreMove) → was ≡ nothing_there → IsNoStart move → (store_step node x size table was move).store ≡ nothing_there
-  stays_unmade node x size table was move is unstarted = rw is (nothing_taken x size table move unstarted)
+  stays_unmade : (node : ℕ) (x : Scheme) (size table : ℕ) (was : TableStore) (move : StoreMove) → was ≡ nothing_there was.disk.state → IsNoStart move
+      → (store_step node x size table was move).store ≡ nothing_there (store_step node x size table was move).store.disk.state
+  stays_unmade node x size table was move is unstarted = stays ∙ sym (ap (λ (s : TableStore). nothing_there s.disk.state) stays)
     where
-      nothing_taken : (x : Scheme) (size table : ℕ) (move : StoreMove) → IsNoStart move → (store_step node x size table nothing_there move).store ≡ nothing_there
-      nothing_taken x size table (store.Take from m) f = refl
-      nothing_taken x size table (store.Work messages.Done) f = refl
-      nothing_taken x size table (store.Work messages.FailedBefore) f = refl
-      nothing_taken x size table (store.Work messages.FailedAfter) f = refl
-      nothing_taken x size table (store.Crash luck) f = refl
-      nothing_taken x size table store.Start f = absurd f
+      nothing_taken : (state : TableState) (move : StoreMove) → IsNoStart move → (store_step node x size table (nothing_there state) move).store ≡ nothing_there state
+      nothing_taken state (store.Take from m) f = refl
+      nothing_taken state (store.Place put) f = refl
+      nothing_taken state (store.Work messages.Done) f = refl
+      nothing_taken state (store.Work messages.FailedBefore) f = refl
+      nothing_taken state (store.Work messages.FailedAfter) f = refl
+      nothing_taken state (store.Crash luck) f = refl
+      nothing_taken state store.Start f = absurd f
+
+      stays : (store_step node x size table was move).store ≡ nothing_there was.disk.state
+      stays = ap (λ (s : TableStore). (store_step node x size table s move).store) is ∙ nothing_taken was.disk.state move unstarted
 
   module _ (w : World) (s : Said) (k : Kept g w s) where
     unmade_items : (table : ℕ) (hosted : Hosted) → hosted_at w table ≡ Some hosted → hosted.made ≡ false → k.items table ≡ []
     unmade_items table hosted at unmade =
         empty (subst (λ (x : TableStore). StorePart (g table) table (KnownIn s.heard k.sent table) (k.items table) x) (k.unmade table hosted at unmade) (k.stores table hosted at).0).state
       where
-        empty : store_part.IsAt (g table) table (KnownIn s.heard k.sent table) (k.items table) nothing_there.disk None → k.items table ≡ []
+        empty : store_part.IsAt (g table) table (KnownIn s.heard k.sent table) (k.items table) (new_disk hosted.store.disk.state) None → k.items table ≡ []
         empty (inl told) = sym told.items
         empty (inr untold) = absurd (let e = untold.pending in cc)
 
@@ -135,9 +143,9 @@ module _ (client_law : ClientLaws) (client_grows : ClientGrows) (lapsed_grows : 
 
     -- a table whose declaration failed is declared at the Store's start
     late_declared : (table : ℕ) (hosted : Hosted) → hosted_at w table ≡ Some hosted → hosted.made ≡ false → (number : ℕ)
-        → MoveSound g s w number (after_table w table (record hosted { made = true }) (declared_late (owner_of w table) table))
+        → MoveSound g s w number (after_table w table (record hosted { made = true }) (declared_late (owner_of w table) table hosted.store.disk.state))
     late_declared table hosted at unmade number =
-        table_moves client_grows lapsed_grows g w s k table (record hosted { made = true }) (hosted, at, refl) (declared_late (owner_of w table) table) (λ no. absurd cc)
+        table_moves client_grows lapsed_grows g w s k table (record hosted { made = true }) (hosted, at, refl) (declared_late (owner_of w table) table hosted.store.disk.state) (λ no. absurd cc)
         (record {
           later = k.items table;
           facts = (k.items table, refl, refl);
@@ -154,7 +162,8 @@ module _ (client_law : ClientLaws) (client_grows : ClientGrows) (lapsed_grows : 
         go (Some hosted) at = made hosted.made refl
           where
             made : (b : Bool) → hosted.made ≡ b
-                → MoveSound g s w number (if b then move_table table store.Start w else after_table w table (record hosted { made = true }) (declared_late (owner_of w table) table))
+                → MoveSound g s w number (if b then move_table table store.Start w
+                else after_table w table (record hosted { made = true }) (declared_late (owner_of w table) table hosted.store.disk.state))
             made false is = late_declared table hosted at is number
             made true is = table_move table store.Start number (λ x there. tt)
                 (λ x there unmade.
@@ -185,6 +194,7 @@ module _ (client_law : ClientLaws) (client_grows : ClientGrows) (lapsed_grows : 
   table_work w s number k table (store.Work luck) f = table_move w s k table (store.Work luck) number (λ hosted at. tt) (λ hosted at unmade. tt)
   table_work w s number k table (store.Crash luck) f = table_move w s k table (store.Crash luck) number (λ hosted at. tt) (λ hosted at unmade. tt)
   table_work w s number k table (store.Take from m) f = absurd f
+  table_work w s number k table (store.Place put) f = absurd f
   table_work w s number k table store.Start f = absurd f
 
   table_start : works.TableStarts g
@@ -363,29 +373,32 @@ module _ (client_law : ClientLaws) (client_grows : ClientGrows) (lapsed_grows : 
 
     -- what a call refuses before it looks at rows is a good answer, and so is the answer of the move
     there_sound : (event : Event) (c : ℕ) (move : ClientMove) (shape : Shape) (lucks : List Luck) → CanTurn s event → ((told : List Fact) → IsQuiet event told)
-        → ((r : Refusal) → IsBefore r → IsGoodAnswer s event (facts.Refuses r)) → part.IsFair g c k.items (k.sent c) move
+        → ((r : Refusal) → IsBefore r → IsGoodAnswer s event (facts.Refuses r)) → (IsTake move → IsGoodAnswer s event facts.Done) → part.IsFair g c k.items (k.sent c) move
         → ((node : Client) → client_at w c ≡ Some node → IsGoodAnswer s event (client_step c shape node move).answer)
         → (o : Option Client) → client_at w c ≡ o → StepSound s w event (call_there w c move shape lucks o)
-    there_sound event c move shape lucks turn quiet refuses fair good o at =
+    there_sound event c move shape lucks turn quiet refuses idle fair good o at =
         call_is (λ (x : WorldStep). StepSound s w event x) w c move shape lucks
         (λ r before. answered_sound w s k event (facts.Refuses r) turn (quiet []) (refuses r before) (refuses facts.NoDevice tt))
         (unread_sound event c turn (quiet []) (refuses facts.NoDevice tt))
+        (λ take. answered_sound w s k event facts.Done turn (quiet []) (idle take) (refuses facts.NoDevice tt))
         (λ node is. answering_sound s w event (client_step c shape node move).answer (and_then (move_client c move shape w) (client_follows_from node.agenda c (other_lucks lucks)))
         turn (quiet _) (good node is) (refuses facts.NoDevice tt) (called_sound c move shape (other_lucks lucks) node fair)) o at
 
     write_sound : (c table : ℕ) (row : List ℕ) (x : Content) (shape : Shape) (lucks : List Luck) → StepSound s w (events.Write c table row x) (call w c (client.Write table row x) shape lucks)
     write_sound c table row x shape lucks =
-        there_sound (events.Write c table row x) c (client.Write table row x) shape lucks (λ lines a. a) (λ told. tt) (λ r before. record { form = tt; counts = refl; is = tt }) tt
+        there_sound (events.Write c table row x) c (client.Write table row x) shape lucks (λ lines a. a) (λ told. tt)
+        (λ r before. record { form = tt; counts = refl; is = tt }) (λ no. absurd no) tt
         (λ node at. by_number (λ (a : Answer). IsGoodAnswer s (events.Write c table row x) a) (λ n. record { form = tt; counts = refl; is = tt }) (λ r. record { form = tt; counts = refl; is = tt }) _ (write_form c shape node.disk node.agenda table row x)) (client_at w c) refl
 
     edit_sound : (c table : ℕ) (row : List ℕ) (x : Edit) (shape : Shape) (lucks : List Luck) → StepSound s w (events.Edit c table row x) (call w c (client.Change table row x) shape lucks)
     edit_sound c table row x shape lucks =
-        there_sound (events.Edit c table row x) c (client.Change table row x) shape lucks (λ lines a. a) (λ told. tt) (λ r before. record { form = tt; counts = refl; is = tt }) tt
+        there_sound (events.Edit c table row x) c (client.Change table row x) shape lucks (λ lines a. a) (λ told. tt)
+        (λ r before. record { form = tt; counts = refl; is = tt }) (λ no. absurd no) tt
         (λ node at. by_number (λ (a : Answer). IsGoodAnswer s (events.Edit c table row x) a) (λ n. record { form = tt; counts = refl; is = tt }) (λ r. record { form = tt; counts = refl; is = tt }) _ (edit_form c shape node.disk node.agenda table row x)) (client_at w c) refl
 
     show_sound : (c table : ℕ) (row : List ℕ) (shape : Shape) (lucks : List Luck) → StepSound s w (events.Show c table row) (call w c (client.Show table row) shape lucks)
     show_sound c table row shape lucks =
-        there_sound (events.Show c table row) c (client.Show table row) shape lucks (λ lines a. a) (λ told. tt) refuses tt
+        there_sound (events.Show c table row) c (client.Show table row) shape lucks (λ lines a. a) (λ told. tt) refuses (λ no. absurd no) tt
         (λ node at. good (client_step c shape node (client.Show table row)).answer (show_form c shape node.disk node.agenda table row)
         (answer_shows g w s k c table row (client_step c shape node (client.Show table row)).answer (law_of w s k c shape node at (client.Show table row) tt).answer)) (client_at w c) refl
       where
@@ -400,7 +413,7 @@ module _ (client_law : ClientLaws) (client_grows : ClientGrows) (lapsed_grows : 
 
     sum_sound : (c table : ℕ) (row : List ℕ) (shape : Shape) (lucks : List Luck) → StepSound s w (events.Sum c table row) (call w c (client.Sum table row) shape lucks)
     sum_sound c table row shape lucks =
-        there_sound (events.Sum c table row) c (client.Sum table row) shape lucks (λ lines a. a) (λ told. tt) refuses tt
+        there_sound (events.Sum c table row) c (client.Sum table row) shape lucks (λ lines a. a) (λ told. tt) refuses (λ no. absurd no) tt
         (λ node at.
         let shown : Answer = (client_step c shape node (client.Show table row)).answer in
         let form : IsShow shown = show_form c shape node.disk node.agenda table row in
@@ -419,12 +432,14 @@ module _ (client_law : ClientLaws) (client_grows : ClientGrows) (lapsed_grows : 
 
     sync_sound : (c table : ℕ) (shape : Shape) (lucks : List Luck) → StepSound s w (events.Sync c table) (call w c (client.Sync table) shape lucks)
     sync_sound c table shape lucks =
-        there_sound (events.Sync c table) c (client.Sync table) shape lucks (λ lines a. a) (λ told. tt) (λ r before. record { form = tt; counts = refl; is = tt }) tt
+        there_sound (events.Sync c table) c (client.Sync table) shape lucks (λ lines a. a) (λ told. tt)
+        (λ r before. record { form = tt; counts = refl; is = tt }) (λ no. absurd no) tt
         (λ node at. by_number (λ (a : Answer). IsGoodAnswer s (events.Sync c table) a) (λ n. record { form = tt; counts = refl; is = tt }) (λ r. record { form = tt; counts = refl; is = tt }) _ (sync_form c shape node.disk node.agenda table)) (client_at w c) refl
 
     pull_sound : (c table : ℕ) (tears asks : List (List ℕ)) (shape : Shape) (lucks : List Luck) → StepSound s w (events.Pull c table) (call w c (client.Next table tears asks) shape lucks)
     pull_sound c table tears asks shape lucks =
-        there_sound (events.Pull c table) c (client.Next table tears asks) shape lucks (λ lines a. a) (λ told. tt) (λ r before. record { form = tt; counts = refl; is = tt }) tt
+        there_sound (events.Pull c table) c (client.Next table tears asks) shape lucks (λ lines a. a) (λ told. tt)
+        (λ r before. record { form = tt; counts = refl; is = tt }) (λ no. absurd no) tt
         (λ node at. by_done (λ (a : Answer). IsGoodAnswer s (events.Pull c table) a) (record { form = tt; counts = refl; is = tt }) (λ r. record { form = tt; counts = refl; is = tt }) _
         (next_form c shape node.disk node.agenda table tears asks)) (client_at w c) refl
 
@@ -432,17 +447,20 @@ module _ (client_law : ClientLaws) (client_grows : ClientGrows) (lapsed_grows : 
 
     begin_sound : (c table : ℕ) (shape : Shape) (lucks : List Luck) → StepSound s w (events.BeginCr c table) (call w c (client.BeginCr table) shape lucks)
     begin_sound c table shape lucks =
-        there_sound (events.BeginCr c table) c (client.BeginCr table) shape lucks (λ lines a. a) (λ told. tt) (λ r before. record { form = tt; counts = refl; is = tt }) tt
+        there_sound (events.BeginCr c table) c (client.BeginCr table) shape lucks (λ lines a. a) (λ told. tt)
+        (λ r before. record { form = tt; counts = refl; is = tt }) (λ no. absurd no) tt
         (λ node at. by_done (λ (a : Answer). IsGoodAnswer s (events.BeginCr c table) a) (record { form = tt; counts = refl; is = tt }) (λ r. record { form = tt; counts = refl; is = tt }) _ (phase_form c shape node.disk node.agenda table)) (client_at w c) refl
 
     end_sound : (c table : ℕ) (shape : Shape) (lucks : List Luck) → StepSound s w (events.EndCr c table) (call w c (client.EndCr table) shape lucks)
     end_sound c table shape lucks =
-        there_sound (events.EndCr c table) c (client.EndCr table) shape lucks (λ lines a. a) (λ told. tt) (λ r before. record { form = tt; counts = refl; is = tt }) tt
+        there_sound (events.EndCr c table) c (client.EndCr table) shape lucks (λ lines a. a) (λ told. tt)
+        (λ r before. record { form = tt; counts = refl; is = tt }) (λ no. absurd no) tt
         (λ node at. by_done (λ (a : Answer). IsGoodAnswer s (events.EndCr c table) a) (record { form = tt; counts = refl; is = tt }) (λ r. record { form = tt; counts = refl; is = tt }) _ (phase_form c shape node.disk node.agenda table)) (client_at w c) refl
 
     resolve_sound : (c table : ℕ) (row : List ℕ) (seen : ℕ) (choice : Choice) (shape : Shape) (lucks : List Luck) → StepSound s w (events.Resolve c table row seen choice) (call w c (client.Resolve table row seen choice) shape lucks)
     resolve_sound c table row seen choice shape lucks =
-        there_sound (events.Resolve c table row seen choice) c (client.Resolve table row seen choice) shape lucks (λ lines a. a) (λ told. tt) (λ r before. record { form = tt; counts = refl; is = tt }) tt
+        there_sound (events.Resolve c table row seen choice) c (client.Resolve table row seen choice) shape lucks (λ lines a. a) (λ told. tt)
+        (λ r before. record { form = tt; counts = refl; is = tt }) (λ no. absurd no) tt
         (λ node at. by_number (λ (a : Answer). IsGoodAnswer s (events.Resolve c table row seen choice) a) (λ n. record { form = tt; counts = refl; is = tt }) (λ r. record { form = tt; counts = refl; is = tt }) _ (resolve_form c shape node.disk node.agenda table row seen choice)) (client_at w c) refl
 
     -- a list of rows in conflict says nothing
@@ -511,7 +529,7 @@ module _ (client_law : ClientLaws) (client_grows : ClientGrows) (lapsed_grows : 
     conflicts_sound c table shape lucks =
         call_is (λ (x : WorldStep). StepSound s w (events.Conflicts c table) (listed x)) w c (client.Conflicts table) shape lucks
         (λ r before. answered_sound w s k (events.Conflicts c table) (facts.Refuses r) (λ lines a. a) tt (record { form = tt; counts = refl; is = tt }) (record { form = tt; counts = refl; is = tt }))
-        (unread_sound (events.Conflicts c table) c (λ lines a. a) tt (record { form = tt; counts = refl; is = tt }))
+        (unread_sound (events.Conflicts c table) c (λ lines a. a) tt (record { form = tt; counts = refl; is = tt })) (λ no. absurd no)
         (λ node at. listing_sound c table (client_step c shape node (client.Conflicts table)).answer
         (and_then (move_client c (client.Conflicts table) shape w) (client_follows_from node.agenda c (other_lucks lucks)))
         (list_is c table node.disk node.agenda (k.clients c node at)) (called_sound c (client.Conflicts table) shape (other_lucks lucks) node tt))
@@ -523,7 +541,7 @@ module _ (client_law : ClientLaws) (client_grows : ClientGrows) (lapsed_grows : 
     all_sound c table by shape shapes lucks more =
         call_is (λ (x : WorldStep). StepSound s w (events.ResolveAll c table by) (resolve_all w c table by shapes more x)) w c (client.ResolveAll table by) shape lucks
         (λ r before. answered_sound w s k (events.ResolveAll c table by) (facts.Refuses r) (λ lines a. a) tt (record { form = tt; counts = refl; is = tt }) (record { form = tt; counts = refl; is = tt }))
-        (unread_sound (events.ResolveAll c table by) c (λ lines a. a) tt (record { form = tt; counts = refl; is = tt }))
+        (unread_sound (events.ResolveAll c table by) c (λ lines a. a) tt (record { form = tt; counts = refl; is = tt })) (λ no. absurd no)
         (λ node at. by_fault (and_then (move_client c (client.ResolveAll table by) shape w) (client_follows_from node.agenda c (other_lucks lucks)))
         (called_sound c (client.ResolveAll table by) shape (other_lucks lucks) node tt)
         (client_step c shape node (client.ResolveAll table by)).answer (all_form c shape node.disk node.agenda table by))
@@ -587,36 +605,35 @@ module _ (client_law : ClientLaws) (client_grows : ClientGrows) (lapsed_grows : 
         (silent_lines (length w.packets) (store_falls node w).outs (store_falls_silent node w)) quiet fault fault
         (failing_sound g w s (length w.packets) (store_falls node w) (works.store_falls_sound g table_work node w s (length w.packets) k))
 
-    hosted_sound : (n : ℕ) (table : ℕ) (from : Node) (m : Message) (lucks : List Luck) → store_part.IsFair table (KnownIn s.heard k.sent table) (k.items table) (store.Take from m)
-        → (o : Option Hosted) → StepSound s w (events.Deliver n) (to_hosted w table (store.Take from m) lucks o)
-    hosted_sound n table from m lucks fair None =
-        answered_sound w s k (events.Deliver n) facts.Done (λ lines a. a) tt (delivered_good n facts.Done tt) (delivered_good n (facts.Refuses facts.NoDevice) tt)
-    hosted_sound n table from m lucks fair (Some hosted) = go hosted.store.agenda
+    -- an event that is one move of a table, whose answer is a good one
+    hosted_sound : (event : Event) (table : ℕ) (move : StoreMove) (lucks : List Luck) → CanTurn s event → ((told : List Fact) → IsQuiet event told)
+        → ((a : Answer) → IsDone a → IsGoodAnswer s event a) → ((hosted : Hosted) → IsDone (table_step w table hosted move).answer)
+        → store_part.IsFair table (KnownIn s.heard k.sent table) (k.items table) move → IsNoStart move
+        → (o : Option Hosted) → StepSound s w event (to_hosted w table move lucks o)
+    hosted_sound event table move lucks turn quiet good form fair unstarted None =
+        answered_sound w s k event facts.Done turn (quiet []) (good facts.Done tt) (good (facts.Refuses facts.NoDevice) tt)
+    hosted_sound event table move lucks turn quiet good form fair unstarted (Some hosted) = go hosted.store.agenda
       where
-        first : MoveSound g s w (length w.packets) (move_table table (store.Take from m) w)
-        first = table_move w s k table (store.Take from m) (length w.packets) (λ x is. fair) (λ x is unmade. tt)
+        first : MoveSound g s w (length w.packets) (move_table table move w)
+        first = table_move w s k table move (length w.packets) (λ x is. fair) (λ x is unmade. unstarted)
 
-        form : IsDone (table_step w table hosted (store.Take from m)).answer
-        form = taken_form (scheme_in (schema_at w table)) (chunk_in (schema_at w table)) table hosted.store.disk hosted.store.agenda from m
+        alone : StepSound s w event (answering (table_step w table hosted move).answer (move_table table move w))
+        alone = answering_sound s w event (table_step w table hosted move).answer (move_table table move w) turn (quiet _)
+            (good _ (form hosted)) (good (facts.Refuses facts.NoDevice) tt) first
 
-        alone : StepSound s w (events.Deliver n) (answering (table_step w table hosted (store.Take from m)).answer (move_table table (store.Take from m) w))
-        alone = answering_sound s w (events.Deliver n) (table_step w table hosted (store.Take from m)).answer (move_table table (store.Take from m) w) (λ lines a. a) tt
-            (delivered_good n _ form) (delivered_good n (facts.Refuses facts.NoDevice) tt) first
+        failed : StepSound s w event (answering facts.Done (failing (store_falls (owner_of w table) w)))
+        failed = failed_sound event (owner_of w table) turn (quiet []) (good (facts.Refuses facts.NoDevice) tt)
 
-        failed : StepSound s w (events.Deliver n) (answering facts.Done (failing (store_falls (owner_of w table) w)))
-        failed = failed_sound (events.Deliver n) (owner_of w table) (λ lines a. a) tt (delivered_good n (facts.Refuses facts.NoDevice) tt)
-
-        reads : (luck : Luck) → StepSound s w (events.Deliver n) (take_read w table hosted (store.Take from m) (other_lucks lucks) luck)
+        reads : (luck : Luck) → StepSound s w event (take_read w table hosted move (other_lucks lucks) luck)
         reads messages.FailedBefore = failed
         reads messages.FailedAfter = failed
         reads messages.Done =
-            answering_sound s w (events.Deliver n) (table_step w table hosted (store.Take from m)).answer
-            (and_then (move_table table (store.Take from m) w) (table_follows table (other_lucks lucks)))
-            (λ lines a. a) tt (delivered_good n _ form) (delivered_good n (facts.Refuses facts.NoDevice) tt)
-            (both_sound g w s (length w.packets) (move_table table (store.Take from m) w) (table_follows table (other_lucks lucks)) first
-            (λ x now. works.table_follows_sound g table_work table (other_lucks lucks) (move_table table (store.Take from m) w).world x _ now))
+            answering_sound s w event (table_step w table hosted move).answer (and_then (move_table table move w) (table_follows table (other_lucks lucks)))
+            turn (quiet _) (good _ (form hosted)) (good (facts.Refuses facts.NoDevice) tt)
+            (both_sound g w s (length w.packets) (move_table table move w) (table_follows table (other_lucks lucks)) first
+            (λ x now. works.table_follows_sound g table_work table (other_lucks lucks) (move_table table move w).world x _ now))
 
-        go : (o : Option (List StoreTask)) → StepSound s w (events.Deliver n) (take_at w table hosted (store.Take from m) lucks o)
+        go : (o : Option (List StoreTask)) → StepSound s w event (take_at w table hosted move lucks o)
         go None = alone
         go (Some (task ∷ more)) = alone
         go (Some []) = reads (first_luck lucks)
@@ -628,14 +645,16 @@ module _ (client_law : ClientLaws) (client_grows : ClientGrows) (lapsed_grows : 
         (delivered_good n facts.Done tt) (delivered_good n (facts.Refuses facts.NoDevice) tt) (still_sound g w s (length w.packets) k)
     taken_sound n c m shape lucks fair (Some node) at =
         there_sound (events.Deliver n) c (client.Take m) shape lucks (λ lines a. a) (λ told. tt)
-        (λ r before. delivered_good n (facts.Refuses r) tt) fair
+        (λ r before. delivered_good n (facts.Refuses r) tt) (λ take. delivered_good n facts.Done tt) fair
         (λ x is. delivered_good n _ (take_form c shape x.disk x.agenda m)) (Some node) at
 
     carried_sound : (n : ℕ) (p : Packet) (shape : Shape) (lucks : List Luck) → IsFairPacket g s.heard k.items k.sent p → (to : Node) → p.to ≡ to → StepSound s w (events.Deliver n) (carried w p shape lucks to)
     carried_sound n p shape lucks fair (nodes.Store number) is =
         unless_down_sound w s k (events.Deliver n) (nodes.Store number) _ (λ lines a. a) tt
         (delivered_good n (facts.Refuses (facts.NodeDown (nodes.Store number))) tt) (delivered_good n (facts.Refuses facts.NoDevice) tt)
-        (λ up. hosted_sound n (table_of p.message) p.from p.message lucks (store_fair p.from p.to p.message fair) (hosted_by w number (table_of p.message)))
+        (λ up. hosted_sound (events.Deliver n) (table_of p.message) (store.Take p.from p.message) lucks (λ lines a. a) (λ told. tt) (delivered_good n)
+        (λ hosted. taken_form (scheme_in (schema_at w (table_of p.message))) (chunk_in (schema_at w (table_of p.message))) (table_of p.message) hosted.store.disk hosted.store.agenda p.from p.message)
+        (store_fair p.from p.to p.message fair) tt (hosted_by w number (table_of p.message)))
     carried_sound n p shape lucks fair (nodes.Client c) is =
         taken_sound n c p.message shape lucks (client_fair c p.from p.message (subst (λ (x : Node). kept.IsFairMessage g s.heard k.items k.sent p.from x p.message) is fair)) (client_at w c) refl
     carried_sound n p shape lucks fair (nodes.Gate gate) is =
@@ -744,8 +763,8 @@ module _ (client_law : ClientLaws) (client_grows : ClientGrows) (lapsed_grows : 
 
     -- ---- declarations
 
-    pub with_table_kept : (table : ℕ) (schema : Schema) (made : Bool) → hosted_at w table ≡ None → schema.scheme ≡ g table → Kept g (with_table w table schema made) s
-    with_table_kept table schema made none scheme = record {
+    pub with_table_kept : (table : ℕ) (schema : Schema) (state : TableState) (made : Bool) → hosted_at w table ≡ None → schema.scheme ≡ g table → Kept g (with_table w table schema state made) s
+    with_table_kept table schema state made none scheme = record {
       items = k.items;
       sent = k.sent;
       told = k.told;
@@ -764,8 +783,8 @@ module _ (client_law : ClientLaws) (client_grows : ClientGrows) (lapsed_grows : 
           (λ e. k.stores q x (sym e.1 ∙ at)) (look_cases w.tables table new q);
       unmade = λ q x at. ⊎_elim
           (λ e. let both : Some new ≡ Some x = sym e.1 ∙ at in let same : new ≡ x = cc in
-          subst (λ (y : Hosted). y.made ≡ false → y.store ≡ nothing_there) same
-          (λ is. ap (λ (b : Bool). record { disk = record { items = []; pending = None; left = [] }; agenda = agenda_of b }) is))
+          subst (λ (y : Hosted). y.made ≡ false → y.store ≡ nothing_there y.store.disk.state) same
+          (λ is. ap (λ (b : Bool). record { disk = new_disk state; agenda = agenda_of b }) is))
           (λ e. k.unmade q x (sym e.1 ∙ at)) (look_cases w.tables table new q);
       no_store = λ q at. ⊎_elim (λ e. absurd (let both : Some new ≡ None = sym e.1 ∙ at in cc)) (λ e. k.no_store q (sym e.1 ∙ at)) (look_cases w.tables table new q);
       clients = k.clients;
@@ -774,7 +793,7 @@ module _ (client_law : ClientLaws) (client_grows : ClientGrows) (lapsed_grows : 
     }
       where
         new : Hosted
-        new = record { store = record { disk = record { items = []; pending = None; left = [] }; agenda = agenda_of made }; history = []; made = made }
+        new = new_hosted state made
 
         new_state : (q : ℕ) → k.items q ≡ [] → (b : Bool) → store_part.IsAt (g q) q (KnownIn s.heard k.sent q) (k.items q) new.store.disk (agenda_of b)
         new_state q empty true = (record { items = sym empty; open_entry = λ i at. absurd cc }, refl)
@@ -783,19 +802,20 @@ module _ (client_law : ClientLaws) (client_grows : ClientGrows) (lapsed_grows : 
         new_part : (q : ℕ) → k.items q ≡ [] → StorePart (g q) q (KnownIn s.heard k.sent q) (k.items q) new.store × (new.history ≡ s.history q)
         new_part q empty = (record { lawful = k.tables q; state = new_state q empty made }, sym (ap entries_of empty) ∙ sym (k.history q))
 
-    with_table_there : (table : ℕ) (schema : Schema) (made : Bool) → hosted_at w table ≡ None → (q : ℕ) → hosted_at (with_table w table schema made) q ≡ None → hosted_at w q ≡ None
-    with_table_there table schema made at q none = ⊎_elim (λ e. ap (hosted_at w) e.0 ∙ at) (λ e. sym e.1 ∙ none)
-        (look_cases w.tables table (record { store = record { disk = record { items = []; pending = None; left = [] }; agenda = agenda_of made }; history = []; made = made }) q)
+    with_table_there : (table : ℕ) (schema : Schema) (state : TableState) (made : Bool) → hosted_at w table ≡ None → (q : ℕ) → hosted_at (with_table w table schema state made) q ≡ None
+        → hosted_at w q ≡ None
+    with_table_there table schema state made at q none = ⊎_elim (λ e. ap (hosted_at w) e.0 ∙ at) (λ e. sym e.1 ∙ none) (look_cases w.tables table (new_hosted state made) q)
 
-    declared_kept : (table : ℕ) (schema : Schema) (luck : Luck) → hosted_at w table ≡ None → schema.scheme ≡ g table → Kept g (made_with w table schema luck) s
-    declared_kept table schema messages.Done none scheme = with_table_kept table schema true none scheme
-    declared_kept table schema messages.FailedBefore none scheme = with_table_kept table schema false none scheme
-    declared_kept table schema messages.FailedAfter none scheme = with_table_kept table schema false none scheme
+    declared_kept : (table : ℕ) (schema : Schema) (state : TableState) (luck : Luck) → hosted_at w table ≡ None → schema.scheme ≡ g table → Kept g (made_with w table schema state luck) s
+    declared_kept table schema state messages.Done none scheme = with_table_kept table schema state true none scheme
+    declared_kept table schema state messages.FailedBefore none scheme = with_table_kept table schema state false none scheme
+    declared_kept table schema state messages.FailedAfter none scheme = with_table_kept table schema state false none scheme
 
-    declared_there : (table : ℕ) (schema : Schema) (luck : Luck) → hosted_at w table ≡ None → (q : ℕ) → hosted_at (made_with w table schema luck) q ≡ None → hosted_at w q ≡ None
-    declared_there table schema messages.Done at q none = with_table_there table schema true at q none
-    declared_there table schema messages.FailedBefore at q none = with_table_there table schema false at q none
-    declared_there table schema messages.FailedAfter at q none = with_table_there table schema false at q none
+    declared_there : (table : ℕ) (schema : Schema) (state : TableState) (luck : Luck) → hosted_at w table ≡ None → (q : ℕ) → hosted_at (made_with w table schema state luck) q ≡ None
+        → hosted_at w q ≡ None
+    declared_there table schema state messages.Done at q none = with_table_there table schema state true at q none
+    declared_there table schema state messages.FailedBefore at q none = with_table_there table schema state false at q none
+    declared_there table schema state messages.FailedAfter at q none = with_table_there table schema state false at q none
 
     fresh_all : (tables : List ℕ) (some : List (ℕ × TableDisk)) → AreFresh g some → AreFresh g (open_all w some tables)
     fresh_all [] some f = f
@@ -804,13 +824,13 @@ module _ (client_law : ClientLaws) (client_grows : ClientGrows) (lapsed_grows : 
         one : (o : Option Schema) → schema_at w table ≡ o → AreFresh g (with_opened some table o)
         one None at = f
         one (Some schema) at = λ q x is. ⊎_elim
-            (λ e. let both : Some (opened schema) ≡ Some x = sym e.1 ∙ is in let same : opened schema ≡ x = cc in (
+            (λ e. let both : Some (opened_table schema) ≡ Some x = sym e.1 ∙ is in let same : opened_table schema ≡ x = cc in (
               ap (λ (y : TableDisk). y.schema.scheme) (sym same) ∙ (k.schemes table schema at ∙ ap g (sym e.0)),
               ap (λ (y : TableDisk). y.position) (sym same),
               ap (λ (y : TableDisk). y.rows)
                   (sym same),
             ))
-            (λ e. f q x (sym e.1 ∙ is)) (look_cases some table (opened schema) q)
+            (λ e. f q x (sym e.1 ∙ is)) (look_cases some table (opened_table schema) q)
 
     pub joined_kept : (c : ℕ) (tables : List ℕ) (luck : Luck) → client_at w c ≡ None → Kept g (joined w c tables luck None) s
     joined_kept c tables luck none = record {
@@ -842,11 +862,11 @@ module _ (client_law : ClientLaws) (client_grows : ClientGrows) (lapsed_grows : 
             subst (λ (xs : List Sending). ClientPart g q k.items xs (s.heard q) new) (sym f.1)
             (subst (λ (t : Heard). ClientPart g q k.items [] t new) (sym f.0) (fresh_part g q k.items (open_all w [] tables) luck (fresh_all tables [] (λ table x at. absurd cc))))
 
-    declare_sound : (table : ℕ) (schema : Schema) (luck : Luck) → (hosted_at w table ≡ None → schema.scheme ≡ g table) → (o : Option Hosted) → hosted_at w table ≡ o
-        → StepSound s w (events.Table table schema) (silent (declared w table schema luck o))
-    declare_sound table schema luck scheme (Some hosted) at = record { turn = refl; lines = tt; kept = k; there = λ q none. none }
-    declare_sound table schema luck scheme None at =
-        record { turn = refl; lines = tt; kept = declared_kept table schema luck at (scheme at); there = λ q none. declared_there table schema luck at q none }
+    declare_sound : (event : Event) → IsTurn g s (record { event = event; lines = [] }) → (table : ℕ) (schema : Schema) (state : TableState) (luck : Luck)
+        → (hosted_at w table ≡ None → schema.scheme ≡ g table) → (o : Option Hosted) → hosted_at w table ≡ o → StepSound s w event (silent (declared w table schema state luck o))
+    declare_sound event turn table schema state luck scheme (Some hosted) at = record { turn = turn; lines = tt; kept = k; there = λ q none. none }
+    declare_sound event turn table schema state luck scheme None at =
+        record { turn = turn; lines = tt; kept = declared_kept table schema state luck at (scheme at); there = λ q none. declared_there table schema state luck at q none }
 
     join_sound : (c : ℕ) (gate : Option ℕ) (tables : List ℕ) (luck : Luck) (o : Option Client) → client_at w c ≡ o → StepSound s w (events.Client c gate tables) (silent (joined w c tables luck o))
     join_sound c gate tables luck (Some node) at = record { turn = refl; lines = tt; kept = k; there = λ q none. none }
@@ -954,15 +974,61 @@ module _ (client_law : ClientLaws) (client_grows : ClientGrows) (lapsed_grows : 
         go false = goes_on_sound (nodes.Client c)
     started_sound shape lucks (nodes.Gate gate) = goes_on_sound (nodes.Gate gate)
 
+    -- ---- a table is made, or dropped
+
+    made_good : (node : Node) (table : ℕ) (a : Answer) → IsDone a → IsGoodAnswer s (events.Create node table) a
+    made_good node table = by_done (λ (a : Answer). IsGoodAnswer s (events.Create node table) a) (record { form = tt; counts = refl; is = tt }) (λ r. record { form = tt; counts = refl; is = tt })
+
+    dropped_good : (node : Node) (table : ℕ) (a : Answer) → IsDone a → IsGoodAnswer s (events.Drop node table) a
+    dropped_good node table = by_done (λ (a : Answer). IsGoodAnswer s (events.Drop node table) a) (record { form = tt; counts = refl; is = tt }) (λ r. record { form = tt; counts = refl; is = tt })
+
+    puts_sound : (event : Event) (number table : ℕ) (put : SidePut) (lucks : List Luck) → CanTurn s event → ((told : List Fact) → IsQuiet event told)
+        → ((a : Answer) → IsDone a → IsGoodAnswer s event a) → StepSound s w event (puts_beside w number table put lucks)
+    puts_sound event number table put lucks turn quiet good =
+        unless_down_sound w s k event (nodes.Store number) _ turn (quiet []) (good (facts.Refuses (facts.NodeDown (nodes.Store number))) tt) (good (facts.Refuses facts.NoDevice) tt)
+        (λ up. hosted_sound event table (store.Place put) lucks turn quiet good (λ hosted. placed_form table hosted.store.disk hosted.store.agenda put) tt tt (hosted_by w number table))
+
+    alter_sound : (event : Event) (c table : ℕ) (change : TableChange) (shape : Shape) (lucks : List Luck) → CanTurn s event → ((told : List Fact) → IsQuiet event told)
+        → ((a : Answer) → IsDone a → IsGoodAnswer s event a) → part.IsFairChange (g table) change → StepSound s w event (call w c (client.Alter table change) shape lucks)
+    alter_sound event c table change shape lucks turn quiet good fair =
+        there_sound event c (client.Alter table change) shape lucks turn quiet (λ r before. good (facts.Refuses r) tt) (λ no. absurd no) fair
+        (λ node at. good (client_step c shape node (client.Alter table change)).answer (alter_form c shape node.disk node.agenda table change)) (client_at w c) refl
+
+    created_sound : (table : ℕ) (shape : Shape) (lucks : List Luck) (node : Node) → StepSound s w (events.Create node table) (created w table shape lucks node)
+    created_sound table shape lucks (nodes.Store number) =
+        puts_sound (events.Create (nodes.Store number) table) number table (store.PutState states.Live) lucks (λ lines a. a) (λ told. tt) (made_good (nodes.Store number) table)
+    created_sound table shape lucks (nodes.Gate gate) =
+        answered_sound w s k (events.Create (nodes.Gate gate) table) facts.Done (λ lines a. a) tt (made_good (nodes.Gate gate) table facts.Done tt)
+        (made_good (nodes.Gate gate) table (facts.Refuses facts.NoDevice) tt)
+    created_sound table shape lucks (nodes.Client c) = by_schema (schema_at w table) refl
+      where
+        by_schema : (o : Option Schema) → schema_at w table ≡ o → StepSound s w (events.Create (nodes.Client c) table) (opens w c table shape lucks o)
+        by_schema None at =
+            answered_sound w s k (events.Create (nodes.Client c) table) facts.Done (λ lines a. a) tt (made_good (nodes.Client c) table facts.Done tt)
+            (made_good (nodes.Client c) table (facts.Refuses facts.NoDevice) tt)
+        by_schema (Some schema) at =
+            alter_sound (events.Create (nodes.Client c) table) c table (client.Opens schema) shape lucks (λ lines a. a) (λ told. tt) (made_good (nodes.Client c) table) (k.schemes table schema at)
+
+    dropped_sound : (table : ℕ) (shape : Shape) (lucks : List Luck) (node : Node) → StepSound s w (events.Drop node table) (dropped w table shape lucks node)
+    dropped_sound table shape lucks (nodes.Store number) =
+        puts_sound (events.Drop (nodes.Store number) table) number table (store.PutState states.Dropped) lucks (λ lines a. a) (λ told. tt) (dropped_good (nodes.Store number) table)
+    dropped_sound table shape lucks (nodes.Client c) =
+        alter_sound (events.Drop (nodes.Client c) table) c table client.Closes shape lucks (λ lines a. a) (λ told. tt) (dropped_good (nodes.Client c) table) tt
+    dropped_sound table shape lucks (nodes.Gate gate) =
+        answered_sound w s k (events.Drop (nodes.Gate gate) table) facts.Done (λ lines a. a) tt (dropped_good (nodes.Gate gate) table facts.Done tt)
+        (dropped_good (nodes.Gate gate) table (facts.Refuses facts.NoDevice) tt)
+
     -- where a table is declared first, it is of its scheme
     abbrev pub IsFirst : Event → Type 0
     IsFirst (events.Table table schema) = hosted_at w table ≡ None → schema.scheme ≡ g table
+    IsFirst (events.Draft table schema) = hosted_at w table ≡ None → schema.scheme ≡ g table
     IsFirst other = Unit {0}
 
     pub step_sound : IsUp w → (event : Event) (lucks : Lucks) → IsFirst event → StepSound s w event (step w event lucks)
     step_sound up (events.Store number) lucks first = let m = store_sound g w s number (length w.packets) k in record { turn = refl; lines = m.lines; kept = m.kept; there = m.there }
     step_sound up (events.Gate number) lucks first = record { turn = refl; lines = tt; kept = k; there = λ q. λ old. old }
-    step_sound up (events.Table table schema) lucks first = declare_sound table schema (first_luck lucks.calls) first (hosted_at w table) refl
+    step_sound up (events.Table table schema) lucks first = declare_sound (events.Table table schema) refl table schema states.Live (first_luck lucks.calls) first (hosted_at w table) refl
+    step_sound up (events.Draft table schema) lucks first = declare_sound (events.Draft table schema) refl table schema states.Draft (first_luck lucks.calls) first (hosted_at w table) refl
     step_sound up (events.Client c gate tables) lucks first = join_sound c gate tables (first_luck lucks.calls) (client_at w c) refl
     step_sound up (events.Write c table row x) lucks first = write_sound c table row x lucks.shape lucks.calls
     step_sound up (events.Edit c table row x) lucks first = edit_sound c table row x lucks.shape lucks.calls
@@ -976,6 +1042,8 @@ module _ (client_law : ClientLaws) (client_grows : ClientGrows) (lapsed_grows : 
     step_sound up (events.EndCr c table) lucks first = end_sound c table lucks.shape lucks.calls
     step_sound up (events.Resolve c table row seen choice) lucks first = resolve_sound c table row seen choice lucks.shape lucks.calls
     step_sound up (events.ResolveAll c table by) lucks first = all_sound c table by lucks.shape lucks.shapes lucks.calls (other_lucks lucks.calls)
+    step_sound up (events.Create node table) lucks first = created_sound table lucks.shape lucks.calls node
+    step_sound up (events.Drop node table) lucks first = dropped_sound table lucks.shape lucks.calls node
     step_sound up (events.Deliver n) lucks first = delivered_sound n lucks.shape lucks.calls (slice_get w.packets n) refl
     step_sound up (events.StoreShow table row) lucks first = shows_sound up table row lucks.calls (hosted_at w table) refl
     step_sound up (events.History table) lucks first = history_sound table (hosted_at w table) refl
@@ -1002,35 +1070,40 @@ module _ (client_law : ClientLaws) (client_grows : ClientGrows) (lapsed_grows : 
   abbrev pub Awaits : World → List Event → Type 0
   Awaits w es = (table : ℕ) → hosted_at w table ≡ None → g table ≡ scheme_for es table
 
+  of_first : (table : ℕ) (x y : Scheme) → (if table == table then x else y) ≡ x
+  of_first table x y = grind (arith, nat_tests)
+
   pub first_is : (w : World) (s : Said) (k : Kept g w s) (event : Event) (es : List Event) → Awaits w (event ∷ es) → IsFirst w s k event
-  first_is w s k (events.Table table schema) es f = λ none. sym (f table none ∙ go (table == table) (grind (arith, nat_tests)))
-    where
-      go : (b : Bool) → b ≡ true → (if b then schema.scheme else scheme_for es table) ≡ schema.scheme
-      go true e = refl
-      go false e = absurd cc
+  first_is w s k (events.Table table schema) es f = λ none. sym (f table none ∙ of_first table schema.scheme (scheme_for es table))
+  first_is w s k (events.Draft table schema) es f = λ none. sym (f table none ∙ of_first table schema.scheme (scheme_for es table))
   first_is w s k other es f = tt
 
   -- a table that is declared is there
-  with_new_there : (w : World) (number : ℕ) (schema : Schema) (made : Bool) (table : ℕ) → table ≡ number → hosted_at (with_table w number schema made) table ≡ None → ⊥
-  with_new_there w number schema made table same none = ⊎_elim (λ e. absurd (let p = sym e.1 ∙ none in cc)) (λ e. e.0 same)
-      (look_cases w.tables number (record { store = record { disk = record { items = []; pending = None; left = [] }; agenda = agenda_of made }; history = []; made = made }) table)
+  with_new_there : (w : World) (number : ℕ) (schema : Schema) (state : TableState) (made : Bool) (table : ℕ) → table ≡ number → hosted_at (with_table w number schema state made) table ≡ None → ⊥
+  with_new_there w number schema state made table same none = ⊎_elim (λ e. absurd (let p = sym e.1 ∙ none in cc)) (λ e. e.0 same)
+      (look_cases w.tables number (new_hosted state made) table)
 
-  new_there : (w : World) (number : ℕ) (schema : Schema) (luck : Luck) (table : ℕ) → table ≡ number → hosted_at (made_with w number schema luck) table ≡ None → ⊥
-  new_there w number schema messages.Done table same none = with_new_there w number schema true table same none
-  new_there w number schema messages.FailedBefore table same none = with_new_there w number schema false table same none
-  new_there w number schema messages.FailedAfter table same none = with_new_there w number schema false table same none
+  new_there : (w : World) (number : ℕ) (schema : Schema) (state : TableState) (luck : Luck) (table : ℕ) → table ≡ number → hosted_at (made_with w number schema state luck) table ≡ None → ⊥
+  new_there w number schema state messages.Done table same none = with_new_there w number schema state true table same none
+  new_there w number schema state messages.FailedBefore table same none = with_new_there w number schema state false table same none
+  new_there w number schema state messages.FailedAfter table same none = with_new_there w number schema state false table same none
 
-  pub scheme_on : (w : World) (event : Event) (lucks : Lucks) (es : List Event) (table : ℕ) → hosted_at (step w event lucks).world table ≡ None
-      → scheme_for (event ∷ es) table ≡ scheme_for es table
-  scheme_on w (events.Table number schema) lucks es table none = go (number == table) refl
+  declared_on : (w : World) (number : ℕ) (schema : Schema) (state : TableState) (luck : Luck) (es : List Event) (table : ℕ)
+      → hosted_at (declared w number schema state luck (hosted_at w number)) table ≡ None → (if number == table then schema.scheme else scheme_for es table) ≡ scheme_for es table
+  declared_on w number schema state luck es table none = go (number == table) refl
     where
-      there : number ≡ table → (o : Option Hosted) → hosted_at w number ≡ o → hosted_at (declared w number schema (first_luck lucks.calls) o) table ≡ None → ⊥
+      there : number ≡ table → (o : Option Hosted) → hosted_at w number ≡ o → hosted_at (declared w number schema state luck o) table ≡ None → ⊥
       there same (Some x) at none_2 = absurd (let both : Some x ≡ None = sym at ∙ (ap (hosted_at w) same ∙ none_2) in cc)
-      there same None at none_2 = new_there w number schema (first_luck lucks.calls) table (sym same) none_2
+      there same None at none_2 = new_there w number schema state luck table (sym same) none_2
 
       go : (b : Bool) → (number == table) ≡ b → (if b then schema.scheme else scheme_for es table) ≡ scheme_for es table
       go false e = refl
       go true e = absurd (there (grind (arith, nat_tests, e)) (hosted_at w number) refl none)
+
+  pub scheme_on : (w : World) (event : Event) (lucks : Lucks) (es : List Event) (table : ℕ) → hosted_at (step w event lucks).world table ≡ None
+      → scheme_for (event ∷ es) table ≡ scheme_for es table
+  scheme_on w (events.Table number schema) lucks es table none = declared_on w number schema states.Live (first_luck lucks.calls) es table none
+  scheme_on w (events.Draft number schema) lucks es table none = declared_on w number schema states.Draft (first_luck lucks.calls) es table none
   scheme_on w other lucks es table none = refl
 
   run_sound : (hs : List Happening) (w : World) (s : Said) → Kept g w s → IsUp w → Awaits w (events_in hs) → IsSoundFrom g s (turns_from w hs)

@@ -45,7 +45,7 @@ module _ (client_grows : ClientGrows) (lapsed_grows : LapsedGrows) (g : ℕ → 
       told_history (hear s (saying fact)) table (goes_on old (saying fact)) K f.0 more later (one_history s table old K h (may_repeat fact) (saying fact) f.0 e f.1) f.2
 
   module _ (w : World) (s : Said) (k : Kept g w s) (table : ℕ) (hosted : Hosted)
-      (there : (old : Hosted) × (hosted_at w table ≡ Some old) × (hosted.history ≡ old.history)) (step : StoreStep) (unmade : hosted.made ≡ false → step.store ≡ nothing_there)
+      (there : (old : Hosted) × (hosted_at w table ≡ Some old) × (hosted.history ≡ old.history)) (step : StoreStep) (unmade : hosted.made ≡ false → step.store ≡ nothing_there step.store.disk.state)
       (law : StoreLaw (g table) table (KnownIn s.heard k.sent table) (k.items table) step) where
     inv : Inv client_grows lapsed_grows g w k.sent s k.items
     inv = record { told = k.told; history = k.history; lawful = k.lawful; tables = k.tables; clients = k.clients; packets = k.packets }
@@ -81,13 +81,13 @@ module _ (client_grows : ClientGrows) (lapsed_grows : LapsedGrows) (g : ℕ → 
       declared q x is = ⊎_elim (λ e. k.declared q there.0 (ap (hosted_at w) e.0 ∙ there.1)) (λ e. k.declared q x (sym e.1 ∙ is))
           (look_cases w.tables table (record { store = step.store; history = history_on hosted.history step.facts; made = hosted.made }) q)
 
-      still_unmade : (q : ℕ) (x : Hosted) → hosted_at (after_table w table hosted step).world q ≡ Some x → x.made ≡ false → x.store ≡ nothing_there
+      still_unmade : (q : ℕ) (x : Hosted) → hosted_at (after_table w table hosted step).world q ≡ Some x → x.made ≡ false → x.store ≡ nothing_there x.store.disk.state
       still_unmade q x is = ⊎_elim
           (λ e.
           let new : Hosted = record { store = step.store; history = history_on hosted.history step.facts; made = hosted.made } in
           let both : Some new ≡ Some x = sym e.1 ∙ is in
           let same : new ≡ x = cc in
-          subst (λ (y : Hosted). y.made ≡ false → y.store ≡ nothing_there) same unmade)
+          subst (λ (y : Hosted). y.made ≡ false → y.store ≡ nothing_there y.store.disk.state) same unmade)
           (λ e. k.unmade q x (sym e.1 ∙ is))
           (look_cases w.tables table (record { store = step.store; history = history_on hosted.history step.facts; made = hosted.made }) q)
 

@@ -8,6 +8,8 @@ use Rattle.row_value.specs.declared.schema.Schema.{Schema}
 use Rattle.row_value.specs.declared.schema.Scheme.{Scheme}
 use Rattle.table_model.specs.declared.event.Event.{Event}
 use Rattle.table_model.specs.declared.event.Event.TheVariants as events
+use Rattle.table_model.specs.declared.table_state.TableState.{TableState}
+use Rattle.table_model.specs.declared.table_state.TableState.TheVariants as states
 use Rattle.conflicts.specs.declared.stored.Stored.{Stored}
 use Rattle.table_model.specs.declared.line.RowPair.{RowPair}
 use Rattle.step_tables.specs.Store as items
@@ -19,7 +21,7 @@ use Rattle.step_tables.specs.Messages.{Request, Pair, Message, Luck, SyncRequest
 use Rattle.step_tables.specs.Messages as messages
 use Rattle.step_tables.specs.Chunks.{is_spelled}
 use Rattle.step_tables.specs.StoreMoves as store
-use Rattle.step_tables.specs.StoreMoves.{StoreDisk, StoreTask, StoreMove, StoreStep}
+use Rattle.step_tables.specs.StoreMoves.{StoreDisk, StoreTask, StoreMove, StoreStep, SidePut}
 use Rattle.step_tables.specs.ClientMoves as client
 use Rattle.step_tables.specs.ClientMoves.{Client, ClientTask, ClientMove, Shape, no_shape}
 use Rattle.step_tables.proofs.Lists.{among_none, among_cons}
@@ -31,7 +33,7 @@ use Rattle.world_tables.specs.World.{history_on, after_table, table_step, move_h
 use Rattle.world_tables.specs.World.{tables_fall, without_down, store_falls, is_at_work, busy_table, write_next, store_works, tasks_of, store_until_idle, store_follows}
 use Rattle.world_tables.specs.World.{table_follows}
 use Rattle.world_tables.specs.World.{declared_late, start_hosted, table_starts, tables_start, store_starts, crash_luck, table_crashes, store_crashes}
-use Rattle.world_tables.specs.World.{answering, answered, refused, unless_down, agenda_of, with_table, declared, joined, gets_tasks}
+use Rattle.world_tables.specs.World.{answering, answered, refused, unless_down, agenda_of, new_hosted, with_table, declared, joined, gets_tasks, puts_beside, opens, created, dropped}
 use Rattle.world_tables.specs.World.{call_there, take_read, take_at, to_hosted, to_there, carried, delivered, row_read, store_shows, chunk_names, history_lines, worked, all_worked, crashed}
 use Rattle.world_tables.specs.World.{started, step}
 use Rattle.world_laws.proofs.Looks.{look_cases}
@@ -93,6 +95,11 @@ module _ (x : Scheme) (size table : ℕ) (d : StoreDisk) where
   taken_up [] from (TornRowRequest q) = ([], refl)
   taken_up [] from (TornRowResponse q) = ([], refl)
 
+  placed_at : (o : Option (List StoreTask)) → IsUpAt o → (put : SidePut) → IsUpAt (store.placed table d o put).store.agenda
+  placed_at None up put = absurd (let e = up.1 in cc)
+  placed_at (Some (task ∷ more)) up put = (task ∷ more, refl)
+  placed_at (Some []) up put = (_, refl)
+
   worked_up : (agenda : List StoreTask) (luck : Luck) → is_fault (store.worked d (Some agenda) luck).answer ≡ false → IsUpAt (store.worked d (Some agenda) luck).store.agenda
   worked_up [] messages.Done fine = ([], refl)
   worked_up (task ∷ more) messages.Done fine = (more, refl)
@@ -147,6 +154,10 @@ move_up w table move f up = go (hosted_at w table) refl
 take_up : (w : World) (table : ℕ) (from : Node) (m : Message) → IsUp w → IsUp (move_table table (store.Take from m) w).world
 take_up w table from m up = move_up w table (store.Take from m)
     (λ hosted at is. taken_at (scheme_in (schema_at w table)) (chunk_in (schema_at w table)) table hosted.store.disk hosted.store.agenda is from m) up
+
+place_up : (w : World) (table : ℕ) (put : SidePut) → IsUp w → IsUp (move_table table (store.Place put) w).world
+place_up w table put up = move_up w table (store.Place put)
+    (λ hosted at is. placed_at (scheme_in (schema_at w table)) (chunk_in (schema_at w table)) table hosted.store.disk hosted.store.agenda is put) up
 
 work_up : (w : World) (table : ℕ) (luck : Luck) → (move_table table (store.Work luck) w).failed ≡ false → IsUp w → IsUp (move_table table (store.Work luck) w).world
 work_up w table luck fine up = move_up w table (store.Work luck)
@@ -283,9 +294,10 @@ module _ (P : ℕ → Type 0) where
           started = behind hosted (table_step w table hosted store.Start)
               (started_at (scheme_in (schema_at w table)) (chunk_in (schema_at w table)) table hosted.store.disk (owner_of w table) hosted.store.agenda)
 
-          made : (b : Bool) → Awaits (if b then move_table table store.Start w else after_table w table (record hosted { made = true }) (declared_late (owner_of w table) table)).world tables
+          made : (b : Bool) → Awaits (if b then move_table table store.Start w
+              else after_table w table (record hosted { made = true }) (declared_late (owner_of w table) table hosted.store.disk.state)).world tables
           made true = subst (λ (o : Option Hosted). Awaits (move_hosted w table store.Start o).world tables) (sym is) started
-          made false = behind (record hosted { made = true }) (declared_late (owner_of w table) table) ([], refl)
+          made false = behind (record hosted { made = true }) (declared_late (owner_of w table) table hosted.store.disk.state) ([], refl)
 
   tables_up : (tables : List ℕ) (lucks : List Luck) (w : World) → Awaits w tables → (tables_start tables lucks w).failed ≡ false
       → (q : ℕ) (hosted : Hosted) → hosted_at (tables_start tables lucks w).world q ≡ Some hosted → P q → IsUpAt hosted.store.agenda
@@ -364,7 +376,7 @@ call_up : (w : World) (c : ℕ) (move : ClientMove) (shape : Shape) (lucks : Lis
     → IsUp (call_there w c move shape lucks o).world
 call_up w c move shape lucks up o at =
     call_is (λ (x : WorldStep). IsUp x.world) w c move shape lucks (λ r before. up)
-    (same_up w (client_falls c w).world (client_stores w c (client.Crash messages.FailedBefore) no_shape) up)
+    (same_up w (client_falls c w).world (client_stores w c (client.Crash messages.FailedBefore) no_shape) up) (λ take. up)
     (λ node is. follows (gets_tasks node.agenda (move_client c move shape w).world c)) o at
   where
     first : IsUp (move_client c move shape w).world
@@ -434,25 +446,24 @@ resolve_all_up w c table by shapes lucks up s there = go s.answer
     go (Some (facts.Pairs pairs)) = there
     go (Some (facts.Refuses r)) = there
 
-hosted_up : (w : World) (table : ℕ) (from : Node) (m : Message) (lucks : List Luck) → IsUp w → (o : Option Hosted) → IsUp (to_hosted w table (store.Take from m) lucks o).world
-hosted_up w table from m lucks up None = up
-hosted_up w table from m lucks up (Some hosted) = go hosted.store.agenda
+hosted_up : (w : World) (table : ℕ) (move : StoreMove) (lucks : List Luck) → IsUp w → IsUp (move_table table move w).world → (o : Option Hosted)
+    → IsUp (to_hosted w table move lucks o).world
+hosted_up w table move lucks up first None = up
+hosted_up w table move lucks up first (Some hosted) = go hosted.store.agenda
   where
-    first : IsUp (move_table table (store.Take from m) w).world
-    first = take_up w table from m up
-
-    reads : (luck : Luck) → IsUp (take_read w table hosted (store.Take from m) (other_lucks lucks) luck).world
+    reads : (luck : Luck) → IsUp (take_read w table hosted move (other_lucks lucks) luck).world
     reads messages.FailedBefore = store_fallen_up (owner_of w table) w up
     reads messages.FailedAfter = store_fallen_up (owner_of w table) w up
-    reads messages.Done = table_follows_up table (other_lucks lucks) (move_table table (store.Take from m) w).world first
+    reads messages.Done = table_follows_up table (other_lucks lucks) (move_table table move w).world first
 
-    go : (o : Option (List StoreTask)) → IsUp (take_at w table hosted (store.Take from m) lucks o).world
+    go : (o : Option (List StoreTask)) → IsUp (take_at w table hosted move lucks o).world
     go None = first
     go (Some (task ∷ more)) = first
     go (Some []) = reads (first_luck lucks)
 
 carried_up : (w : World) (p : Packet) (shape : Shape) (lucks : List Luck) → IsUp w → (to : Node) → IsUp (carried w p shape lucks to).world
-carried_up w p shape lucks up (nodes.Store number) = unless_down_up w (nodes.Store number) _ up (hosted_up w (table_of p.message) p.from p.message lucks up (hosted_by w number (table_of p.message)))
+carried_up w p shape lucks up (nodes.Store number) = unless_down_up w (nodes.Store number) _ up
+    (hosted_up w (table_of p.message) (store.Take p.from p.message) lucks up (take_up w (table_of p.message) p.from p.message up) (hosted_by w number (table_of p.message)))
 carried_up w p shape lucks up (nodes.Gate gate) = up
 carried_up w p shape lucks up (nodes.Client c) = go (client_at w c) refl
   where
@@ -482,8 +493,8 @@ chunks_up w table up None = up
 chunks_up w table up (Some hosted) = unless_down_up w (nodes.Store (owner_of w table)) _ up up
 
 -- a new table that is made is up
-with_table_up : (w : World) (table : ℕ) (schema : Schema) (made : Bool) → IsUp w → hosted_at w table ≡ None → IsUp (with_table w table schema made)
-with_table_up w table schema made up none q found at is_made is = ⊎_elim
+with_table_up : (w : World) (table : ℕ) (schema : Schema) (state : TableState) (made : Bool) → IsUp w → hosted_at w table ≡ None → IsUp (with_table w table schema state made)
+with_table_up w table schema state made up none q found at is_made is = ⊎_elim
     (λ e.
     let both : Some new ≡ Some found = sym e.1 ∙ at in
     let same : new ≡ found = cc in
@@ -492,16 +503,17 @@ with_table_up w table schema made up none q found at is_made is = ⊎_elim
     (look_cases w.tables table new q)
   where
     new : Hosted
-    new = record { store = record { disk = record { items = []; pending = None; left = [] }; agenda = agenda_of made }; history = []; made = made }
+    new = new_hosted state made
 
-    schema_stays : (other : ℕ) → other ≢ table → schema_at (with_table w table schema made) other ≡ schema_at w other
+    schema_stays : (other : ℕ) → other ≢ table → schema_at (with_table w table schema state made) other ≡ schema_at w other
     schema_stays other apart = ⊎_elim (λ e. absurd (apart e.0)) (λ e. e.1) (look_cases w.schemas table schema other)
 
-declared_up : (w : World) (table : ℕ) (schema : Schema) (luck : Luck) → IsUp w → (o : Option Hosted) → hosted_at w table ≡ o → IsUp (declared w table schema luck o)
-declared_up w table schema luck up (Some hosted) at = up
-declared_up w table schema messages.Done up None at = with_table_up w table schema true up at
-declared_up w table schema messages.FailedBefore up None at = with_table_up w table schema false up at
-declared_up w table schema messages.FailedAfter up None at = with_table_up w table schema false up at
+declared_up : (w : World) (table : ℕ) (schema : Schema) (state : TableState) (luck : Luck) → IsUp w → (o : Option Hosted) → hosted_at w table ≡ o
+    → IsUp (declared w table schema state luck o)
+declared_up w table schema state luck up (Some hosted) at = up
+declared_up w table schema state messages.Done up None at = with_table_up w table schema state true up at
+declared_up w table schema state messages.FailedBefore up None at = with_table_up w table schema state false up at
+declared_up w table schema state messages.FailedAfter up None at = with_table_up w table schema state false up at
 
 -- a Store that joins takes tables only where it isn't down, and then no Store is
 with_store_up : (number : ℕ) (w : World) → IsUp w → IsUp (with_store number w)
@@ -573,10 +585,30 @@ started_up w shape lucks up (nodes.Client c) = go (is_down w (nodes.Client c))
     go false = up
 started_up w shape lucks up (nodes.Gate gate) = up
 
+-- ---- a table is made, or dropped
+
+puts_up : (w : World) (number table : ℕ) (put : SidePut) (lucks : List Luck) → IsUp w → IsUp (puts_beside w number table put lucks).world
+puts_up w number table put lucks up = unless_down_up w (nodes.Store number) _ up (hosted_up w table (store.Place put) lucks up (place_up w table put up) (hosted_by w number table))
+
+created_up : (w : World) (table : ℕ) (shape : Shape) (lucks : List Luck) → IsUp w → (node : Node) → IsUp (created w table shape lucks node).world
+created_up w table shape lucks up (nodes.Store number) = puts_up w number table (store.PutState states.Live) lucks up
+created_up w table shape lucks up (nodes.Gate gate) = up
+created_up w table shape lucks up (nodes.Client c) = opened (schema_at w table)
+  where
+    opened : (o : Option Schema) → IsUp (opens w c table shape lucks o).world
+    opened None = up
+    opened (Some schema) = event_up w c (client.Alter table (client.Opens schema)) shape lucks up
+
+dropped_up : (w : World) (table : ℕ) (shape : Shape) (lucks : List Luck) → IsUp w → (node : Node) → IsUp (dropped w table shape lucks node).world
+dropped_up w table shape lucks up (nodes.Store number) = puts_up w number table (store.PutState states.Dropped) lucks up
+dropped_up w table shape lucks up (nodes.Gate gate) = up
+dropped_up w table shape lucks up (nodes.Client c) = event_up w c (client.Alter table client.Closes) shape lucks up
+
 pub step_up : (w : World) (event : Event) (lucks : Lucks) → IsUp w → IsUp (step w event lucks).world
 step_up w (events.Store number) lucks up = with_store_up number w up
 step_up w (events.Gate number) lucks up = up
-step_up w (events.Table table schema) lucks up = declared_up w table schema (first_luck lucks.calls) up (hosted_at w table) refl
+step_up w (events.Table table schema) lucks up = declared_up w table schema states.Live (first_luck lucks.calls) up (hosted_at w table) refl
+step_up w (events.Draft table schema) lucks up = declared_up w table schema states.Draft (first_luck lucks.calls) up (hosted_at w table) refl
 step_up w (events.Client c gate tables) lucks up = joined_up w c tables (first_luck lucks.calls) up (client_at w c)
 step_up w (events.Write c table row x) lucks up = event_up w c (client.Write table row x) lucks.shape lucks.calls up
 step_up w (events.Edit c table row x) lucks up = event_up w c (client.Change table row x) lucks.shape lucks.calls up
@@ -593,6 +625,8 @@ step_up w (events.Resolve c table row seen choice) lucks up = event_up w c (clie
 step_up w (events.ResolveAll c table by) lucks up =
     resolve_all_up w c table by lucks.shapes (other_lucks lucks.calls) up (call w c (client.ResolveAll table by) lucks.shape lucks.calls)
     (event_up w c (client.ResolveAll table by) lucks.shape lucks.calls up)
+step_up w (events.Create node table) lucks up = created_up w table lucks.shape lucks.calls up node
+step_up w (events.Drop node table) lucks up = dropped_up w table lucks.shape lucks.calls up node
 step_up w (events.Deliver n) lucks up = delivered_up w lucks.shape lucks.calls up (slice_get w.packets n)
 step_up w (events.StoreShow table row) lucks up = shows_up w table row lucks.calls up (hosted_at w table)
 step_up w (events.History table) lucks up = history_up w table up (hosted_at w table)

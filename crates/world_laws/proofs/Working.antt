@@ -139,7 +139,7 @@ works_end P c (task ∷ tasks) lucks w d at always =
 
 module _ (table : ℕ) (row : List ℕ) (slots : Slots) (last : ℕ) (told : List ClientFact) (d : ClientDisk) (o : TableDisk) (at : table_at d table ≡ Some o) (free : d.plan ≡ None) where
   abbrev pub plan : Plan
-  plan = record { last = last; table = table; row = Some (record { row = row; slots = slots }); position = None; facts = told }
+  plan = record { last = last; table = table; row = Some (record { row = row; slots = slots }); position = None; alters = None; facts = told }
 
   abbrev pub put : RowPut
   put = record { row = row; slots = slots }

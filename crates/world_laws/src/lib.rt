@@ -19,7 +19,8 @@ ghost use Rattle.world_tables.specs.Whole.{read_by, shadow_by, position_by, grea
 ghost use Rattle.world_laws.specs.Begun.{begun_in, AreSingle};
 ghost use Rattle.world_laws.specs.Resolving.{FirstResolved, AllResolved};
 ghost use Rattle.world_laws.specs.Bad.{back, blind, doubled, early, fallen, groundless, lost, misplaced, noisy};
-ghost use Rattle.world_laws.specs.Bad.{outdated, over, past, renamed, revived, selfish, settled, silent, skipped_number};
+ghost use Rattle.world_laws.specs.Bad.{outdated, over, past, renamed, revived, selfish, settled, silent};
+ghost use Rattle.world_laws.specs.Bad.{skipped_number};
 ghost use Rattle.world_laws.specs.Bad.{skipped_version, stale, strong_open, twice, unearned, unread, unseen, unwritten};
 ghost use Rattle.world_tables.specs.Turns.{Happening, turns, world_from};
 ghost use Rattle.world_tables.specs.World.{Hosted, Lucks, start, hosted_at, client_at, client_pairs, step};

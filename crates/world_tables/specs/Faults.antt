@@ -51,6 +51,7 @@ is_fault_answer (Some answer) = is_fault answer
 -- itself in the write that a crash cuts
 abbrev pub is_device_fault : World → Event → Lucks → Bool
 is_device_fault w (events.Table table schema) lucks = fails_new (hosted_at w table) lucks.calls
+is_device_fault w (events.Draft table schema) lucks = fails_new (hosted_at w table) lucks.calls
 is_device_fault w (events.Client c gate tables) lucks = fails_joined (client_at w c) lucks.calls
 is_device_fault w (events.Crash node calls pick) lucks =
     if is_down w node then false else fails_crash w lucks.calls node

@@ -10,7 +10,8 @@ use Rattle.step_tables.specs.Store.{Stored}
 use Rattle.step_tables.specs.Messages.{Luck, table_of}
 use Rattle.step_tables.specs.StoreMoves as store
 use Rattle.step_tables.specs.StoreMoves.{StoreDisk, StoreTask, changed}
-use Rattle.world_tables.specs.World.{World, Lucks, Packet, Hosted, owner_of, tables_of, tasks_in, move_table, tables_fall}
+use Rattle.world_tables.specs.World.{World, Lucks, Packet, Hosted, owner_of, tables_of, tasks_in, move_table}
+use Rattle.world_tables.specs.World.{tables_fall}
 use Rattle.world_tables.specs.World.{tables_start}
 
 -- the disk behind the first so many of these tasks

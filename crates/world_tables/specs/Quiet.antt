@@ -15,8 +15,8 @@ use Rattle.world_tables.specs.Chunks.{AreChunks}
 use Rattle.world_tables.specs.World.{has_node, without_node, owner_by, chunk_in, joining}
 use Rattle.world_tables.specs.Turns.{Turn}
 
--- the nodes on hold; those to which something came while they were on hold; to whom each packet was sent; and the Stores
--- that were declared, the last one first
+-- the nodes on hold; those to which something came while they were on hold; to whom each packet was sent; and the
+-- Stores that were declared, the last one first
 pub record Quiet : Type 0 where
   pub held : List Node
   pub loud : List Node
@@ -86,6 +86,7 @@ AreTheChunks s table size (Some names) = AreChunks s table size names
 -- what a table is: its first declaration
 abbrev pub schema_by : Event → ℕ → Option Schema → Option Schema
 schema_by (events.Table number schema) table rest = if number == table then Some schema else rest
+schema_by (events.Draft number schema) table rest = if number == table then Some schema else rest
 schema_by other table rest = rest
 
 abbrev pub schema_for : List Event → ℕ → Option Schema

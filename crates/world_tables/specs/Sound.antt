@@ -28,6 +28,7 @@ use Rattle.world_tables.specs.Turns.{Turn}
 
 abbrev pub declared_by : Event → ℕ → Scheme → Scheme
 declared_by (events.Table number schema) table rest = if number == table then schema.scheme else rest
+declared_by (events.Draft number schema) table rest = if number == table then schema.scheme else rest
 declared_by other table rest = rest
 
 abbrev pub scheme_for : List Event → ℕ → Scheme
@@ -203,7 +204,8 @@ pub record ArePairs (g : ℕ → Scheme) (s : Said) (client table : ℕ) (counte
   pub lines_are : counted ≡ map PairLine pairs
   pub rising : IsStrictlySortedBy row_cmp (map (λ (pair : RowPair). pair.row) pairs)
   pub shown : (pair : RowPair) → Among pairs pair
-      → (content : Content) × (shown_of g s client table pair.row ≡ Some (facts.Contended pair.number pair.version content))
+      → (content : Content)
+      × (shown_of g s client table pair.row ≡ Some (facts.Contended pair.number pair.version content))
   pub all : (row : List ℕ) (number version : ℕ) (content : Content)
       → shown_of g s client table row ≡ Some (facts.Contended number version content)
       → Among pairs (record { row = row; number = number; version = version })
@@ -226,6 +228,7 @@ abbrev pub is_declaration : Event → Bool
 is_declaration (events.Store store) = true
 is_declaration (events.Gate gate) = true
 is_declaration (events.Table table schema) = true
+is_declaration (events.Draft table schema) = true
 is_declaration (events.Client client gate tables) = true
 is_declaration other = false
 
@@ -234,6 +237,8 @@ IsForm event (facts.Refuses refusal) = Unit {0}
 IsForm (events.Write client table row content) (facts.Number number) = Unit {0}
 IsForm (events.Edit client table row edit) (facts.Number number) = Unit {0}
 IsForm (events.Link client up) facts.Done = Unit {0}
+IsForm (events.Create node table) facts.Done = Unit {0}
+IsForm (events.Drop node table) facts.Done = Unit {0}
 IsForm (events.Show client table row) (facts.Shows what) = Unit {0}
 IsForm (events.Sum client table row) (facts.Shows what) = Unit {0}
 IsForm (events.Sum client table row) (facts.Sums sum) = Unit {0}

@@ -22,6 +22,8 @@ use Rattle.conflicts.specs.Stored.{chosen}
 use Rattle.table_model.specs.declared.line.RowPair.{RowPair}
 use Rattle.table_model.specs.declared.event.Event.{Event}
 use Rattle.table_model.specs.declared.event.Event.TheVariants as events
+use Rattle.table_model.specs.declared.table_state.TableState.{TableState}
+use Rattle.table_model.specs.declared.table_state.TableState.TheVariants as states
 use Rattle.table_model.specs.History.{same_row}
 use Rattle.ring_map.specs.Owners.{owner_on}
 use Rattle.step_tables.specs.Slots.{Main}
@@ -36,7 +38,7 @@ use Rattle.step_tables.specs.Messages.{Message, Send, Luck, name_of, table_of}
 use Rattle.step_tables.specs.Messages as messages
 use Rattle.step_tables.specs.Sayings.{Saying, SaysEntry, saying, entered}
 use Rattle.step_tables.specs.StoreMoves as store
-use Rattle.step_tables.specs.StoreMoves.{TableStore, StoreDisk, StoreTask, StoreMove, StoreStep, store_step}
+use Rattle.step_tables.specs.StoreMoves.{TableStore, StoreDisk, StoreTask, StoreMove, StoreStep, SidePut, store_step}
 use Rattle.step_tables.specs.ClientMoves as client
 use Rattle.step_tables.specs.ClientMoves.{Slots, TableDisk, Client, ClientTask, ClientMove, ClientStep, Shape}
 use Rattle.step_tables.specs.ClientMoves.{no_shape, client_step, is_cut_off, kept_out, phases_by}
@@ -55,8 +57,8 @@ pub record Hosted : Type 0 where
   pub made : Bool
 
 -- the declared Stores, the last one first, and tables with their schemas, the clients, every packet that was ever sent,
--- in order: each may be delivered at any time, again, or never; the nodes on hold, the Stores that a crash or a disk has
--- taken down, the clients whose link is down, and the phases that are open, each of a client with its table
+-- in order: each may be delivered at any time, again, or never; the nodes on hold, the Stores that a crash or a disk
+-- has taken down, the clients whose link is down, and the phases that are open, each of a client with its table
 pub record World : Type 0 where
   pub stores : List ℕ
   pub schemas : List (ℕ × Schema)
@@ -423,10 +425,10 @@ store_follows number lucks w =
 abbrev pub table_follows : ℕ → List Luck → World → Moved
 table_follows table lucks w = if is_at_work w table then store_follows (owner_of w table) lucks w else still w
 
--- a table whose declaration failed is declared, and has recovered
-abbrev pub declared_late : ℕ → ℕ → StoreStep
-declared_late number table = record {
-  store = record { disk = record { items = []; pending = None; left = [] }; agenda = Some [] };
+-- a table whose declaration failed is declared, in the state in which it was to be, and has recovered
+abbrev pub declared_late : ℕ → ℕ → TableState → StoreStep
+declared_late number table state = record {
+  store = record { disk = store.new_disk state; agenda = Some [] };
   answer = facts.Done;
   facts = facts.StoreRecovered number table ∷ [];
   sends = [];
@@ -435,7 +437,8 @@ declared_late number table = record {
 abbrev pub start_hosted : World → ℕ → Option Hosted → Moved
 start_hosted w table None = still w
 start_hosted w table (Some hosted) = if hosted.made then move_table table store.Start w
-    else after_table w table (record hosted { made = true }) (declared_late (owner_of w table) table)
+    else after_table w table (record hosted { made = true })
+    (declared_late (owner_of w table) table hosted.store.disk.state)
 
 -- a table is started, where what is read of its disks can be
 abbrev pub table_starts : ℕ → Luck → World → Moved
@@ -512,20 +515,23 @@ agenda_of true = Some []
 agenda_of false = None
 
 -- a table that is made is up; one that isn't is down, and its owner with it
-abbrev pub with_table : World → ℕ → Schema → Bool → World
-with_table w table schema made = record w {
-  schemas = insert_entry nat_cmp w.schemas table schema;
-  tables = insert_entry nat_cmp w.tables table (record {
-    store = record { disk = record { items = []; pending = None; left = [] }; agenda = agenda_of made };
-    history = [];
-    made = made;
-  });
+abbrev pub new_hosted : TableState → Bool → Hosted
+new_hosted state made = record {
+  store = record { disk = store.new_disk state; agenda = agenda_of made };
+  history = [];
+  made = made;
 }
 
-abbrev pub made_with : World → ℕ → Schema → Luck → World
-made_with w table schema messages.Done = with_table w table schema true
-made_with w table schema messages.FailedBefore = with_table w table schema false
-made_with w table schema messages.FailedAfter = with_table w table schema false
+abbrev pub with_table : World → ℕ → Schema → TableState → Bool → World
+with_table w table schema state made = record w {
+  schemas = insert_entry nat_cmp w.schemas table schema;
+  tables = insert_entry nat_cmp w.tables table (new_hosted state made);
+}
+
+abbrev pub made_with : World → ℕ → Schema → TableState → Luck → World
+made_with w table schema state messages.Done = with_table w table schema state true
+made_with w table schema state messages.FailedBefore = with_table w table schema state false
+made_with w table schema state messages.FailedAfter = with_table w table schema state false
 
 -- a Store that joins while one is down is down too
 abbrev pub joining : ℕ → List Node → List Node
@@ -536,16 +542,13 @@ abbrev pub with_store : ℕ → World → World
 with_store number w = record w { stores = number ∷ w.stores; downs = joining number w.downs }
 
 -- a table that is there already stays as it is, and so does a client
-abbrev pub declared : World → ℕ → Schema → Luck → Option Hosted → World
-declared w table schema luck None = made_with w table schema luck
-declared w table schema luck (Some hosted) = w
-
-abbrev pub opened : Schema → TableDisk
-opened schema = record { schema = schema; position = 0; rows = [] }
+abbrev pub declared : World → ℕ → Schema → TableState → Luck → Option Hosted → World
+declared w table schema state luck None = made_with w table schema state luck
+declared w table schema state luck (Some hosted) = w
 
 abbrev pub with_opened : List (ℕ × TableDisk) → ℕ → Option Schema → List (ℕ × TableDisk)
 with_opened tables table None = tables
-with_opened tables table (Some schema) = insert_entry nat_cmp tables table (opened schema)
+with_opened tables table (Some schema) = insert_entry nat_cmp tables table (client.opened_table schema)
 
 -- the declared ones among some tables, each with its schema
 abbrev pub open_all : World → List (ℕ × TableDisk) → List ℕ → List (ℕ × TableDisk)
@@ -601,13 +604,51 @@ abbrev pub unless_kept : World → Option Refusal → WorldStep → WorldStep
 unless_kept w None s = s
 unless_kept w (Some refusal) s = refused w refusal
 
+-- ---- a table that is closed: each call is refused, and a message is taken with no use for it
+
+abbrev pub table_of_move : ClientMove → Option ℕ
+table_of_move (client.Write table row content) = Some table
+table_of_move (client.Change table row edit) = Some table
+table_of_move (client.Show table row) = Some table
+table_of_move (client.Sum table row) = Some table
+table_of_move (client.Sync table) = Some table
+table_of_move (client.Next table tears asks) = Some table
+table_of_move (client.BeginCr table) = Some table
+table_of_move (client.Conflicts table) = Some table
+table_of_move (client.EndCr table) = Some table
+table_of_move (client.Resolve table row seen choice) = Some table
+table_of_move (client.ResolveAll table by) = Some table
+table_of_move (client.Take message) = Some (table_of message)
+table_of_move other = None
+
+abbrev pub is_closed_in : Option TableDisk → Bool
+is_closed_in None = false
+is_closed_in (Some table) = table.closed
+
+abbrev pub is_closed : Client → Option ℕ → Bool
+is_closed node None = false
+is_closed node (Some table) = is_closed_in (client.table_at (client.seen node.disk) table)
+
+abbrev pub idle_answer : Shape → Option (List ClientTask) → Answer
+idle_answer shape (Some (task ∷ more)) = facts.Refuses (facts.Busy shape.plan)
+idle_answer shape agenda = facts.Done
+
+abbrev pub closed_answer : Shape → Bool → Option (List ClientTask) → ClientMove → Answer
+closed_answer shape cut agenda (client.Take message) =
+    if cut then facts.Refuses facts.Offline else idle_answer shape agenda
+closed_answer shape cut agenda move = facts.Refuses facts.NoTable
+
+abbrev pub unless_closed : World → Bool → Answer → WorldStep → WorldStep
+unless_closed w closed answer s = if closed then answered w answer else s
+
 abbrev pub call_there : World → ℕ → ClientMove → Shape → List Luck → Option Client → WorldStep
 call_there w c move shape lucks None = refused w facts.NoTable
 call_there w c move shape lucks (Some node) =
     unless_down w (nodes.Client c)
     (reads w c (first_luck lucks)
+    (unless_closed w (is_closed node (table_of_move move)) (closed_answer shape (is_cut w c) node.agenda move)
     (unless_kept w (kept_out (is_resolving w c) move (client_step c shape node move).answer)
-    (unless_cut w (is_cut w c && is_cut_off c shape node move) (calls w c move shape (other_lucks lucks) node))))
+    (unless_cut w (is_cut w c && is_cut_off c shape node move) (calls w c move shape (other_lucks lucks) node)))))
 
 -- a client's move, and the work that follows
 abbrev pub call : World → ℕ → ClientMove → Shape → List Luck → WorldStep
@@ -816,6 +857,29 @@ abbrev pub linked : World → ℕ → Bool → Option Client → WorldStep
 linked w c up None = answered w facts.Done
 linked w c up (Some node) = unless_down w (nodes.Client c) (answered (with_link c up w) facts.Done)
 
+-- ---- a table is opened or closed at a client, or its Store puts something beside its rows. No message says so here:
+-- the world above has the messages, and does this where one is taken
+
+-- what is put at the Store that keeps the table
+abbrev pub puts_beside : World → ℕ → ℕ → SidePut → List Luck → WorldStep
+puts_beside w number table put lucks =
+    unless_down w (nodes.Store number) (to_hosted w table (store.Place put) lucks (hosted_by w number table))
+
+-- a table that isn't declared isn't opened
+abbrev pub opens : World → ℕ → ℕ → Shape → List Luck → Option Schema → WorldStep
+opens w c table shape lucks None = answered w facts.Done
+opens w c table shape lucks (Some schema) = call w c (client.Alter table (client.Opens schema)) shape lucks
+
+abbrev pub created : World → ℕ → Shape → List Luck → Node → WorldStep
+created w table shape lucks (nodes.Store number) = puts_beside w number table (store.PutState states.Live) lucks
+created w table shape lucks (nodes.Client c) = opens w c table shape lucks (schema_at w table)
+created w table shape lucks (nodes.Gate gate) = answered w facts.Done
+
+abbrev pub dropped : World → ℕ → Shape → List Luck → Node → WorldStep
+dropped w table shape lucks (nodes.Store number) = puts_beside w number table (store.PutState states.Dropped) lucks
+dropped w table shape lucks (nodes.Client c) = call w c (client.Alter table client.Closes) shape lucks
+dropped w table shape lucks (nodes.Gate gate) = answered w facts.Done
+
 -- What isn't in the script: how the device calls of an event go, one after the other; which device writes a client has
 -- in it beside those that change what its devices stand for, for each of its plans where it may begin many; and where a
 -- client pulls, the rows that it tells as torn, and those that it asks for whole.
@@ -835,7 +899,9 @@ abbrev pub step : World → Event → Lucks → WorldStep
 step w (events.Store number) lucks = silent (with_store number w)
 step w (events.Gate number) lucks = silent w
 step w (events.Table table schema) lucks =
-    silent (declared w table schema (first_luck lucks.calls) (hosted_at w table))
+    silent (declared w table schema states.Live (first_luck lucks.calls) (hosted_at w table))
+step w (events.Draft table schema) lucks =
+    silent (declared w table schema states.Draft (first_luck lucks.calls) (hosted_at w table))
 step w (events.Client c gate tables) lucks =
     silent (joined w c tables (first_luck lucks.calls) (client_at w c))
 step w (events.Write c table row content) lucks = call w c (client.Write table row content) lucks.shape lucks.calls
@@ -854,6 +920,8 @@ step w (events.ResolveAll c table by) lucks =
     resolve_all w c table by lucks.shapes (other_lucks lucks.calls)
     (call w c (client.ResolveAll table by) lucks.shape lucks.calls)
 step w (events.Link c up) lucks = linked w c up (client_at w c)
+step w (events.Create node table) lucks = created w table lucks.shape lucks.calls node
+step w (events.Drop node table) lucks = dropped w table lucks.shape lucks.calls node
 step w (events.Deliver packet) lucks = delivered w lucks.shape lucks.calls (slice_get w.packets packet)
 step w (events.StoreShow table row) lucks = store_shows w table row lucks.calls (hosted_at w table)
 step w (events.History table) lucks = history_lines w table (hosted_at w table)

@@ -8,6 +8,7 @@ pub mod Entries
 pub mod Made
 pub mod NamedDevices
 pub mod Steps
+pub mod Beside
 pub mod Recoveries
 pub mod Updates
 pub mod Cuts

@@ -5,12 +5,14 @@ use Rattle.stab_base.specs.declared.node.Node.{Node}
 use Rattle.stab_base.specs.declared.node.Node.TheVariants.{Gate}
 use Rattle.row_store.specs.Spelling.{IsClient}
 use Rattle.store_commit.specs.NamedChunks.{Among}
+use Rattle.table_model.specs.declared.table_state.TableState.TheVariants.{Live}
 use Rattle.step_tables.specs.Store.{Stored}
+use Rattle.step_tables.specs.StoreMoves.{new_disk}
 use Rattle.step_tables.specs.Messages.{Pair}
 use Rattle.step_tables.specs.Chunks.{chunks_of}
 use Rattle.step_tables.proofs.Lists.{among_cons, among_none}
 use Rattle.device_laws.specs.Stands.{IsHeld, Stands}
-use Rattle.device_laws.specs.Worked.{nothing_in, nothing_there, small, row_id, name, first_request, second_request, first_item, second_item, first_row, second_row, without_last, holding, first_chunks}
+use Rattle.device_laws.specs.Worked.{nothing_in, small, row_id, name, first_request, second_request, first_item, second_item, first_row, second_row, without_last, holding, first_chunks}
 use Rattle.device_laws.specs.Worked.{second_chunks, chunks_too_many, chunks_too_few, first_disk, second_disk}
 use Rattle.device_laws.proofs.Chunks.{flat, chunk_comes_from}
 use Rattle.device_laws.proofs.Empty.{nothing_stands}
@@ -24,7 +26,7 @@ gate = Gate 1
 
 pub first_stands : Stands small (holding first_row first_chunks) first_disk
 first_stands =
-    let all = update_follows small (nothing_in small) nothing_there (nothing_stands small) refl first_request refl refl third (omega arith) (omega arith) gate 1 in
+    let all = update_follows small (nothing_in small Live) (new_disk Live) (nothing_stands small Live) refl first_request refl refl third (omega arith) (omega arith) gate 1 in
     all.2.2.2.2.2.2
 
 pub second_stands : Stands small (holding second_row second_chunks) second_disk

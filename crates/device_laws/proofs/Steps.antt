@@ -29,12 +29,12 @@ some_is (Some b) bytes is = refl
 
 -- ---- a chunk that is left is dropped
 
-entry_less : (size : ℕ) (items : List Stored) (pending : Option Stored) (left less : List ChunkName) → ((name : ChunkName) → Among name less → Among name left) → (o : Option Stored) (p : Option Entry)
-    → StandsEntry size (record { items = items; pending = pending; left = left }) o p → StandsEntry size (record { items = items; pending = pending; left = less }) o p
-entry_less size items pending left less sub None None h = none_among less (λ name a. subst (λ (l : List ChunkName). Among name l) h (sub name a))
-entry_less size items pending left less sub None (Some entry) h = h
-entry_less size items pending left less sub (Some item) None h = h
-entry_less size items pending left less sub (Some item) (Some entry) h = record {
+entry_less : (size : ℕ) (disk : StoreDisk) (less : List ChunkName) → ((name : ChunkName) → Among name less → Among name disk.left) → (o : Option Stored) (p : Option Entry)
+    → StandsEntry size disk o p → StandsEntry size (record disk { left = less }) o p
+entry_less size disk less sub None None h = none_among less (λ name a. subst (λ (l : List ChunkName). Among name l) h (sub name a))
+entry_less size disk less sub None (Some entry) h = h
+entry_less size disk less sub (Some item) None h = h
+entry_less size disk less sub (Some item) (Some entry) h = record {
   before = h.before;
   entry_of = h.entry_of;
   next = h.next;
@@ -45,7 +45,7 @@ entry_less size items pending left less sub (Some item) (Some entry) h = record 
 pub dropped : (schema : Schema) (d : Devs) (disk : StoreDisk) (name : ChunkName) → Stands schema d disk → Among name disk.left
     → Stands schema (changed_by d (devs.DropChunk name)) (changed disk (moves.DropChunk name))
 dropped schema d disk name st a = record {
-  held = record { table = st.held.table; numbered = st.held.numbered; made = st.held.made; rows = st.held.rows };
+  held = record { table = st.held.table; subs = st.held.subs; numbered = st.held.numbered; made = st.held.made; rows = st.held.rows };
   chunks = record {
     held = λ q bytes h. chunk_dropped_other d.chunks name q (λ same. st.chunks.apart q bytes (subst (λ (n : ChunkName). Among n disk.left) same a) h) ∙ st.chunks.held q bytes h;
     left = λ q b.
@@ -54,7 +54,7 @@ dropped schema d disk name st a = record {
     only = λ q bytes found. pick q bytes found (cases_name name q);
     apart = λ q bytes b h. st.chunks.apart q bytes (among_without (name ∷ []) disk.left q b).0 h;
   };
-  entry = entry_less schema.chunk disk.items disk.pending disk.left (without_names (name ∷ []) disk.left) (λ q b. (among_without (name ∷ []) disk.left q b).0) disk.pending d.pending st.entry;
+  entry = entry_less schema.chunk disk (without_names (name ∷ []) disk.left) (λ q b. (among_without (name ∷ []) disk.left q b).0) disk.pending d.pending st.entry;
 }
   where
     pick : (q : ChunkName) (bytes : List ℕ) → chunk_in (without name_cmp d.chunks name) q ≡ Some bytes → (name ≡ q) ⊎ (is_at (name_cmp name) q ≡ false)
@@ -70,7 +70,7 @@ dropped schema d disk name st a = record {
 
 pub closed : (schema : Schema) (d : Devs) (disk : StoreDisk) → Stands schema d disk → disk.left ≡ [] → Stands schema (changed_by d devs.CloseEntry) (changed disk moves.Close)
 closed schema d disk st none = record {
-  held = record { table = st.held.table; numbered = st.held.numbered; made = st.held.made; rows = st.held.rows };
+  held = record { table = st.held.table; subs = st.held.subs; numbered = st.held.numbered; made = st.held.made; rows = st.held.rows };
   chunks = record { held = st.chunks.held; left = st.chunks.left; only = st.chunks.only; apart = st.chunks.apart };
   entry = none;
 }
@@ -78,7 +78,7 @@ closed schema d disk st none = record {
 pub opened : (schema : Schema) (d : Devs) (disk : StoreDisk) (item : Stored) (entry : Entry) → Stands schema d disk → disk.pending ≡ None → IsEntryOf schema.chunk disk.items item entry
     → item.entry.version ≡ length disk.items + 1 → IsMade schema.chunk disk.items item → Stands schema (changed_by d (devs.OpenEntry entry)) (changed disk (moves.Open item))
 opened schema d disk item entry st is e next made = record {
-  held = record { table = st.held.table; numbered = st.held.numbered; made = st.held.made; rows = st.held.rows };
+  held = record { table = st.held.table; subs = st.held.subs; numbered = st.held.numbered; made = st.held.made; rows = st.held.rows };
   chunks = record { held = st.chunks.held; left = st.chunks.left; only = st.chunks.only; apart = st.chunks.apart };
   entry = record {
     before = disk.items;
@@ -91,30 +91,29 @@ opened schema d disk item entry st is e next made = record {
 
 -- ---- a new chunk is put
 
-pub put_chunk : (size : ℕ) (cs : List (ChunkName × List ℕ)) (items : List Stored) (pending : Option Stored) (left : List ChunkName) (name : ChunkName) (bytes : List ℕ) → AreNumbered 0 items → AreMade size [] items
-    → length items < name.version → StandChunks size cs (record { items = items; pending = pending; left = left })
-    → StandChunks size (insert_entry name_cmp cs name bytes) (record { items = items; pending = pending; left = left ++ name ∷ [] })
-put_chunk size cs items pending left name bytes numbered made above st = record {
+pub put_chunk : (size : ℕ) (cs : List (ChunkName × List ℕ)) (disk : StoreDisk) (name : ChunkName) (bytes : List ℕ) → AreNumbered 0 disk.items → AreMade size [] disk.items
+    → length disk.items < name.version → StandChunks size cs disk → StandChunks size (insert_entry name_cmp cs name bytes) (record disk { left = disk.left ++ name ∷ [] })
+put_chunk size cs disk name bytes numbered made above st = record {
   held = λ q b h. chunk_put_other cs name bytes q (not_held q b h) ∙ st.held q b h;
-  left = λ q a. ⊎_elim (was_left q (cases_name name q)) (λ here. ⊎_elim (λ same. is_put q (sym same)) (λ none. absurd none) here) (either_among q left (name ∷ []) a);
+  left = λ q a. ⊎_elim (was_left q (cases_name name q)) (λ here. ⊎_elim (λ same. is_put q (sym same)) (λ none. absurd none) here) (either_among q disk.left (name ∷ []) a);
   only = λ q b found. pick q b found (cases_name name q);
-  apart = λ q b a h. ⊎_elim (λ l. st.apart q b l h) (λ here. ⊎_elim (λ same. not_held q b h (sym same)) (λ none. none) here) (either_among q left (name ∷ []) a);
+  apart = λ q b a h. ⊎_elim (λ l. st.apart q b l h) (λ here. ⊎_elim (λ same. not_held q b h (sym same)) (λ none. none) here) (either_among q disk.left (name ∷ []) a);
 }
   where
-    not_held : (q : ChunkName) (b : List ℕ) → IsHeld size items q b → name ≡ q → ⊥
-    not_held q b h same = let low = held_below size items numbered made q b h in let is : name.version ≡ q.version = ap (λ (n : ChunkName). n.version) same in absurd (omega arith)
+    not_held : (q : ChunkName) (b : List ℕ) → IsHeld size disk.items q b → name ≡ q → ⊥
+    not_held q b h same = let low = held_below size disk.items numbered made q b h in let is : name.version ≡ q.version = ap (λ (n : ChunkName). n.version) same in absurd (omega arith)
 
     is_put : (q : ChunkName) → name ≡ q → IsSome (chunk_in (insert_entry name_cmp cs name bytes) q)
     is_put q same = some_is _ bytes (subst (λ (n : ChunkName). chunk_in (insert_entry name_cmp cs name bytes) n ≡ Some bytes) same (chunk_put cs name bytes))
 
-    was_left : (q : ChunkName) → (name ≡ q) ⊎ (is_at (name_cmp name) q ≡ false) → Among q left → IsSome (chunk_in (insert_entry name_cmp cs name bytes) q)
+    was_left : (q : ChunkName) → (name ≡ q) ⊎ (is_at (name_cmp name) q ≡ false) → Among q disk.left → IsSome (chunk_in (insert_entry name_cmp cs name bytes) q)
     was_left q (inl same) a = is_put q same
     was_left q (inr at) a = subst (λ (o : Option (List ℕ)). IsSome o) (sym (chunk_put_other cs name bytes q (not_itself_name name q at))) (st.left q a)
 
     pick : (q : ChunkName) (b : List ℕ) → chunk_in (insert_entry name_cmp cs name bytes) q ≡ Some b → (name ≡ q) ⊎ (is_at (name_cmp name) q ≡ false)
-        → IsHeld size items q b ⊎ Among q (left ++ name ∷ [])
-    pick q b found (inl same) = inr (right_among q left (name ∷ []) (inl (sym same)))
-    pick q b found (inr at) = ⊎_elim (λ h. inl h) (λ a. inr (left_among q left (name ∷ []) a)) (st.only q b (sym (chunk_put_other cs name bytes q (not_itself_name name q at)) ∙ found))
+        → IsHeld size disk.items q b ⊎ Among q (disk.left ++ name ∷ [])
+    pick q b found (inl same) = inr (right_among q disk.left (name ∷ []) (inl (sym same)))
+    pick q b found (inr at) = ⊎_elim (λ h. inl h) (λ a. inr (left_among q disk.left (name ∷ []) a)) (st.only q b (sym (chunk_put_other cs name bytes q (not_itself_name name q at)) ∙ found))
 
 -- ---- drops, and the close behind them
 

@@ -100,7 +100,7 @@ module _ (schema : Schema) (d : Devs) (disk : StoreDisk) (st : Stands schema d d
   -- ---- the new chunks are put
 
   abbrev at_work : List ChunkName → StoreDisk
-  at_work left = record { items = items; pending = Some item; left = left }
+  at_work left = record disk { pending = Some item; left = left }
 
   abbrev putting : List (ChunkName × List ℕ) → Devs
   putting cs = record { chunks = cs; held = d.held; pending = Some entry }
@@ -113,7 +113,7 @@ module _ (schema : Schema) (d : Devs) (disk : StoreDisk) (st : Stands schema d d
 
   putting_stands : (cs : List (ChunkName × List ℕ)) (left : List ChunkName) (more : List Named) → IsPutting cs left more → Stands schema (putting cs) (at_work left)
   putting_stands cs left more p = record {
-    held = record { table = st.held.table; numbered = st.held.numbered; made = st.held.made; rows = st.held.rows };
+    held = record { table = st.held.table; subs = st.held.subs; numbered = st.held.numbered; made = st.held.made; rows = st.held.rows };
     chunks = p.chunks;
     entry = record {
       before = items;
@@ -130,7 +130,7 @@ module _ (schema : Schema) (d : Devs) (disk : StoreDisk) (st : Stands schema d d
   put_next : (cs : List (ChunkName × List ℕ)) (left : List ChunkName) (x : Named) (more : List Named) → IsPutting cs left (x ∷ more)
       → IsPutting (insert_entry name_cmp cs x.0 x.1) (left ++ x.0 ∷ []) more
   put_next cs left x more p = record {
-    chunks = let is = (next_within v 0 new (news_next size items item st.held.numbered refl st.held.made m) x here).0 in put_chunk size cs items (Some item) left x.0 x.1 st.held.numbered st.held.made (omega arith) p.chunks;
+    chunks = let is = (next_within v 0 new (news_next size items item st.held.numbered refl st.held.made m) x here).0 in put_chunk size cs (at_work left) x.0 x.1 st.held.numbered st.held.made (omega arith) p.chunks;
     within = λ y a. p.within y (inr a);
     only_new = λ q a. ⊎_elim
         (λ old. p.only_new q old)
@@ -195,7 +195,7 @@ module _ (schema : Schema) (d : Devs) (disk : StoreDisk) (st : Stands schema d d
   own_held : (x : Named) → Among x now → IsHeld size with_item x.0 x.1
   own_held x a = record { row = request.row; among = subst (λ (l : List (List Named)). Among x (flat l)) (sym (chunks_own size items item)) a }
 
-  put_chunks : (cs : List (ChunkName × List ℕ)) (left : List ChunkName) → IsPutting cs left [] → StandChunks size cs (record { items = with_item; pending = Some item; left = left_behind left })
+  put_chunks : (cs : List (ChunkName × List ℕ)) (left : List ChunkName) → IsPutting cs left [] → StandChunks size cs (record disk { items = with_item; pending = Some item; left = left_behind left })
   put_chunks cs left p = record {
     held = held_now;
     left = λ q a. old_there q (left_is_old left p.only_new q a);
@@ -260,6 +260,7 @@ module _ (schema : Schema) (d : Devs) (disk : StoreDisk) (st : Stands schema d d
     row_put cs left p = record {
       held = record {
         table = st.held.table;
+        subs = st.held.subs;
         numbered = numbered_push 0 items item st.held.numbered (omega arith);
         made = made_push size [] items item st.held.made m;
         rows = rows_with size items d.held st.held.numbered st.held.rows item stored stored_is;

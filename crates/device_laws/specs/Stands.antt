@@ -1,6 +1,6 @@
 -- What a table's three devices hold, as the disk of the Store's step table; and the writes of an agenda as its tasks.
 use Rattle.std.specs.Prelude.{◌≡◌, ◌⊎◌, ℕ, ◌+◌, ◌==◌, List, [], ◌∷◌, ◌++◌, length, map, Option, Some, None}
-use Rattle.std.specs.Prelude.{true, Bool, filter, IsSome, FitsSigned}
+use Rattle.std.specs.Prelude.{true, Bool, filter, option_map, IsSome, FitsSigned}
 use Rattle.std.specs.Int.{w64}
 use Rattle.std.specs.List.{find, AllByRecursion}
 use Rattle.stab_base.specs.declared.chunk_name.ChunkName.{ChunkName}
@@ -17,6 +17,7 @@ use Rattle.row_value.specs.declared.pieces.PieceContent.TheVariants.{Gone, Row}
 use Rattle.chunk_store.specs.Standing.{chunk_in}
 use Rattle.row_store.specs.declared.stored.LastWrite.{LastWrite}
 use Rattle.row_store.specs.declared.stored.StoredRow.{StoredRow}
+use Rattle.row_store.specs.declared.stored.Terms.{Terms}
 use Rattle.row_store.specs.Data.{TableData, row_of}
 use Rattle.row_store.specs.Spelling.{AreLasts}
 use Rattle.status_log.specs.Entry.{Entry}
@@ -24,6 +25,8 @@ use Rattle.store_commit.specs.declared.update.Update.{Update}
 use Rattle.store_commit.specs.Devs.{Devs, Write, changed_by}
 use Rattle.store_commit.specs.Devs as devs
 use Rattle.store_commit.specs.NamedChunks.{Among, AreDifferent}
+use Rattle.table_model.specs.declared.table_state.TableState.{TableState}
+use Rattle.table_model.specs.declared.table_state.TableState.TheVariants as states
 use Rattle.step_tables.specs.Store.{Stored, current_of}
 use Rattle.step_tables.specs.Messages.{Pair, Request}
 use Rattle.step_tables.specs.Chunks.{Named, first_of, others_of, flat, objects_of, each_chunk, is_of_each, name_of_new}
@@ -41,8 +44,8 @@ abbrev pub AreNext : ℕ → ℕ → List Named → Type 0
 AreNext version next [] = Unit {0}
 AreNext version next (chunk ∷ more) = (chunk.0 ≡ name_of_new version next) × AreNext version (next + 1) more
 
--- HOW AN ITEM NAMES ITS CHUNKS, BEHIND THESE: each has a name, and none twice; one that isn't new is one of its row, with
--- the same bytes; and the new ones are numbered in order.
+-- HOW AN ITEM NAMES ITS CHUNKS, BEHIND THESE: each has a name, and none twice; one that isn't new is one of its row,
+-- with the same bytes; and the new ones are numbered in order.
 pub record IsMade (size : ℕ) (before : List Stored) (item : Stored) : Type 0 where
   pub each : is_of_each size item.names (objects_of item.content) ≡ true
   pub different : AreDifferent (names_of (chunks_with size item))
@@ -145,17 +148,34 @@ StandsEntry size disk None (Some entry) = ⊥
 StandsEntry size disk (Some item) None = ⊥
 StandsEntry size disk (Some item) (Some entry) = IsBegun size disk item entry
 
+-- ---- beside the rows
+
+-- a table's state as its record has it
+abbrev pub state_number : TableState → ℕ
+state_number states.Draft = 1
+state_number states.Live = 2
+state_number states.Dropped = 3
+
+-- a subscription as its payload has it
+abbrev pub stored_terms : moves.Terms → Terms
+stored_terms terms = record { gate = terms.gate; period = terms.period; tolerance = terms.tolerance }
+
+abbrev pub stored_subs : List (ℕ × moves.Terms) → List (ℕ × Terms)
+stored_subs subs = map (λ (entry : ℕ × moves.Terms). (entry.0, stored_terms entry.1)) subs
+
 -- ---- the devices
 
--- What the device of the rows holds is that of a disk: each row by its last item, with the names of its chunks and the
--- last write of each client on it. The items are numbered, and name their chunks one behind the other.
+-- What the device of the rows holds is that of a disk: the table's schema and state; each subscription; each row by
+-- its last item, with the names of its chunks and the last write of each client on it. The items are numbered, and name
+-- their chunks one behind the other.
 pub record HasRows (schema : Schema) (held : TableData) (disk : StoreDisk) : Type 0 where
-  pub table : held.table ≡ Some (schema, 2)
+  pub table : held.table ≡ Some (schema, state_number disk.state)
+  pub subs : held.subs ≡ stored_subs disk.subs
   pub numbered : AreNumbered 0 disk.items
   pub made : AreMade schema.chunk [] disk.items
   pub rows : (row : List ℕ) → StandsRow schema.chunk disk.items (current_of disk.items row) (row_of held row)
 
--- What the devices of a live table hold is this disk: its rows; each chunk of a row, and what is left; and the open
+-- What the devices of a table hold is this disk: its rows; each chunk of a row, and what is left; and the open
 -- entry.
 pub record Stands (schema : Schema) (d : Devs) (disk : StoreDisk) : Type 0 where
   pub held : HasRows schema d.held disk
@@ -175,6 +195,10 @@ IsWriteOf size items (devs.PutRow stored) (moves.Put item named old) =
     (stored.row ≡ item.entry.row) × (stored.version ≡ item.entry.version)
 IsWriteOf size items (devs.DropChunk name) (moves.DropChunk other) = name ≡ other
 IsWriteOf size items devs.CloseEntry moves.Close = Unit {0}
+IsWriteOf size items (devs.PutTable schema number) (moves.PutBeside (moves.PutState state)) =
+    number ≡ state_number state
+IsWriteOf size items (devs.PutSub client terms) (moves.PutBeside (moves.PutSub other some)) =
+    (client ≡ other) × (terms ≡ option_map stored_terms some)
 IsWriteOf size items write change = ⊥
 
 -- The devices hold this disk now and behind each of these writes, which are those of these tasks.

@@ -9,21 +9,21 @@ use Rattle.row_value.specs.declared.pieces.PieceContent.TheVariants.{Row}
 use Rattle.row_store.specs.declared.stored.LastWrite.{LastWrite}
 use Rattle.row_store.specs.declared.stored.StoredRow.{StoredRow}
 use Rattle.store_commit.specs.Devs.{Devs}
+use Rattle.table_model.specs.declared.table_state.TableState.{TableState}
+use Rattle.table_model.specs.declared.table_state.TableState.TheVariants as states
 use Rattle.step_tables.specs.Messages.{Request}
 use Rattle.step_tables.specs.Store.{Stored}
-use Rattle.step_tables.specs.StoreMoves.{StoreDisk, StoreTask, StoreChange, item_for}
+use Rattle.step_tables.specs.StoreMoves.{StoreDisk, StoreTask, StoreChange, item_for, new_disk}
+use Rattle.device_laws.specs.Stands.{state_number}
 
 -- ---- a table without a row
 
-abbrev pub nothing_in : Schema → Devs
-nothing_in schema = record {
+abbrev pub nothing_in : Schema → TableState → Devs
+nothing_in schema state = record {
   chunks = [];
-  held = record { rows = []; table = Some (schema, 2); subs = [] };
+  held = record { rows = []; table = Some (schema, state_number state); subs = [] };
   pending = None;
 }
-
-abbrev pub nothing_there : StoreDisk
-nothing_there = record { items = []; pending = None; left = [] }
 
 -- ---- the small table
 
@@ -116,7 +116,7 @@ without_last = record {
 }
 
 abbrev pub closed_with : List Stored → StoreDisk
-closed_with items = record { items = items; pending = None; left = [] }
+closed_with items = record (new_disk states.Live) { items = items }
 
 abbrev pub first_disk : StoreDisk
 first_disk = closed_with (first_item ∷ [])

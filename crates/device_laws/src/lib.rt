@@ -2,7 +2,8 @@
 //! recovery are the tasks of its agendas.
 #![tactic(auto)]
 
-ghost use Rattle.std.specs.Prelude.{◌≡◌, ℕ, ◌+◌, ◌<◌, ◌^◌, List, [], ◌∷◌, Option, Some, None, is_some, Ok, length, true};
+ghost use Rattle.std.specs.Prelude.{◌≡◌, ℕ, ◌+◌, ◌<◌, ◌^◌, List, [], ◌∷◌, Option, Some, None, is_some, Ok, length};
+ghost use Rattle.std.specs.Prelude.{true};
 ghost use Rattle.std.specs.Prelude.{IfSome, option_map};
 ghost use Rattle.stab_base.specs.declared.chunk_name.ChunkName.{ChunkName};
 ghost use Rattle.stab_base.specs.declared.node.Node.{Node};
@@ -18,17 +19,21 @@ ghost use Rattle.row_store.specs.declared.stored.StoredRow.{StoredRow};
 ghost use Rattle.row_store.specs.Data.{IsTableVersion, IsNextChanged, row_of};
 ghost use Rattle.row_store.specs.Spelling.{IsClient, HasStoredSpelling};
 ghost use Rattle.store_commit.specs.Agenda.{update_writes, recovery_writes, AreLeftovers};
-ghost use Rattle.store_commit.specs.Devs.{Devs};
+ghost use Rattle.store_commit.specs.Devs.{Devs, PutTable};
+ghost use Rattle.store_commit.specs.Devs as writes;
 ghost use Rattle.store_commit.specs.NamedChunks.{NamedChunks};
 ghost use Rattle.store_commit.specs.Update.{IsUpdate, entry_for, stored_for};
+ghost use Rattle.table_model.specs.declared.table_state.TableState.{TableState};
 ghost use Rattle.step_tables.specs.Chunks.{rising, chunks_of, is_spelled};
 ghost use Rattle.step_tables.specs.Messages.{Request};
 ghost use Rattle.step_tables.specs.Store.{Stored, current_of, next_changed};
 ghost use Rattle.step_tables.specs.StoreMoves.{StoreDisk, item_for, accepting, recovering, reopening, yours_in};
-ghost use Rattle.step_tables.specs.StoreMoves.{keeps_there, Open, PutChunk, Put, DropChunk, Close};
-ghost use Rattle.device_laws.specs.Stands.{Stands, Follows, HaveWords, pair_in, update_for};
+ghost use Rattle.step_tables.specs.StoreMoves.{keeps_there, new_disk, beside_task, PutState, Open, PutChunk, Put};
+ghost use Rattle.step_tables.specs.StoreMoves.{DropChunk, Close};
+ghost use Rattle.step_tables.specs.StoreMoves as moves;
+ghost use Rattle.device_laws.specs.Stands.{Stands, Follows, HaveWords, pair_in, update_for, state_number, stored_terms};
 ghost use Rattle.device_laws.specs.Reads.{Reads, row_version_of};
-ghost use Rattle.device_laws.specs.Worked.{nothing_in, nothing_there, small, holding, first_row, second_row};
+ghost use Rattle.device_laws.specs.Worked.{nothing_in, small, holding, first_row, second_row};
 ghost use Rattle.device_laws.specs.Worked.{first_chunks, second_chunks, chunks_too_many, chunks_too_few, row_id, name};
 ghost use Rattle.device_laws.specs.Worked.{first_disk, second_disk, second_request, second_item, without_last, changes};
 
@@ -101,9 +106,22 @@ pub fn the_next_change_follows_the_table()
         → current_of disk.items item.entry.row ≡ Some item }
 {}
 
-/// A table without a row stands for the empty disk. (Does nothing: its clause is a law.)
+/// What is put beside the rows, the table's state or a client's subscription: the one write is the one task of the step
+/// table's agenda, and the devices stand for its disk before and behind it. (Does nothing: its clauses are laws.)
+pub fn puts_beside_follow_the_table()
+    ensures state { (schema : Schema) (d : Devs) (disk : StoreDisk) (table : ℕ) (state : TableState)
+        → Stands schema d disk
+        → Follows schema d (PutTable schema (state_number state) ∷ []) disk
+        (beside_task table (PutState state) ∷ []) }
+    ensures sub { (schema : Schema) (d : Devs) (disk : StoreDisk) (table client : ℕ) (terms : Option moves.Terms)
+        → Stands schema d disk
+        → Follows schema d (writes.PutSub client (option_map stored_terms terms) ∷ []) disk
+        (beside_task table (moves.PutSub client terms) ∷ []) }
+{}
+
+/// A table that was just declared has no row, and no subscription. (Does nothing: its clause is a law.)
 pub fn a_table_without_a_row_stands()
-    ensures { (schema : Schema) → Stands schema (nothing_in schema) nothing_there }
+    ensures { (schema : Schema) (state : TableState) → Stands schema (nothing_in schema state) (new_disk state) }
 {}
 
 /// A row with two objects in chunks of two bytes, written twice: the second write keeps two chunks, drops one and

@@ -16,14 +16,14 @@ use Rattle.disk_trait.specs.Calls.{DiskState}
 use Rattle.stab_base.specs.declared.node.Node.TheVariants as nodes
 use Rattle.row_value.specs.declared.schema.Schema.{Schema}
 use Rattle.step_tables.proofs.Lists.{lookup-insert}
-use Rattle.world_tables.specs.World.{World, owner_by, owner_of, schema_at, hosted_at, has_store, tables_of, is_unmade, has_unmade, has_node, with_table}
+use Rattle.world_tables.specs.World.{World, owner_by, owner_of, schema_at, hosted_at, has_store, tables_of, is_unmade, has_unmade, has_node, with_table, new_hosted}
 use Rattle.world_tables.specs.World as world
 use Rattle.store_host.specs.declared.hosted.Hosted.{Hosted}
 use Rattle.store_host.specs.declared.host.StoreHost.{StoreHost}
 use Rattle.store_host.specs.declared.store.StoreState.{StoreState}
 use Rattle.store_host.specs.Holds.{IsHosted, HostedThere, HoldsTables, HoldsStore, StoreThere, IsUpAt, AreUp}
 use Rattle.store_host.specs.Joining.{kept_by, renewed}
-use Rattle.store_host.specs.Steps.{new_table}
+use Rattle.table_model.specs.declared.table_state.TableState.{TableState}
 use Rattle.store_host.proofs.Maps.{put_there, not_found, keys_put, at_same, look_cases}
 use Rattle.store_host.proofs.Alike.{declared_more}
 use Rattle.store_host.proofs.Downs.{at_itself, number_apart, of_owner, any_alike}
@@ -52,12 +52,12 @@ kept_beside {D} store (e ∷ es) k it other none = go (nat_cmp k e.0) refl (λ g
     go Greater is rest = with_first (e.1.node.store == store) (insert_entry nat_cmp es k it) es
         (rest (ap (λ (r : Ordering). cond (is_eq r) (Some e.1) (lookup (is_at (nat_cmp k)) es)) (sym is) ∙ none))
 
-module _ {D : Type 0} (state : D → DiskState) (w : World) (old : StoreHost D) (h : HoldsStore state w old) (schema : Schema) (made : Bool) (table : ℕ) (it : Hosted D) (new : tree.BTreeMap ℕ (Hosted D))
+module _ {D : Type 0} (state : D → DiskState) (w : World) (old : StoreHost D) (h : HoldsStore state w old) (schema : Schema) (stage : TableState) (made : Bool) (table : ℕ) (it : Hosted D) (new : tree.BTreeMap ℕ (Hosted D))
     (none : tree.get nat_cmp old.tables table ≡ None) (u : (q : ℕ) → tree.get nat_cmp new q ≡ cond (is_at (nat_cmp table) q) (Some it) (tree.get nat_cmp old.tables q))
     (entries : new.entries ≡ insert_entry nat_cmp old.tables.entries table it) (rising : IsStrictlySortedBy nat_cmp (keys_of new.entries))
-    (at : IsHosted state (owner_by w.stores (Some schema)) (Some schema) table (new_table made) it) where
+    (at : IsHosted state (owner_by w.stores (Some schema)) (Some schema) table (new_hosted stage made) it) where
   abbrev v : World
-  v = with_table w table schema made
+  v = with_table w table schema stage made
 
   look : (q : ℕ) → schema_at v q ≡ cond (is_at (nat_cmp table) q) (Some schema) (schema_at w q)
   look q = lookup-insert nat_cmp nat_cmp_total w.schemas table schema q
@@ -87,14 +87,14 @@ module _ {D : Type 0} (state : D → DiskState) (w : World) (old : StoreHost D) 
       (subst (λ (o : Option Schema). HostedThere state (owner_of w q) o q (hosted_at w q) (tree.get nat_cmp old.tables q)) (sym (schema_else q away)) (h.tables.there q))
 
   keys : keys_of v.tables ≡ keys_of new.entries
-  keys = keys_put w.tables table (new_table made)
+  keys = keys_put w.tables table (new_hosted stage made)
       ∙ (ap (λ (ks : List ℕ). insert_key nat_cmp ks table) h.tables.keys ∙ (sym (keys_put old.tables.entries table it) ∙ sym (ap (λ (es : List (ℕ × Hosted D)). keys_of es) entries)))
 
   put_tables : HoldsTables state v new
   put_tables = record {
-    there = put_there state w old.tables new table it u (new_table made) (owner_of v) (schema_at v) (λ q. others q (is_at (nat_cmp table) q) refl)
-        (subst (λ (n : ℕ). IsHosted state n (schema_at v table) table (new_table made) it) (sym (owner_here ∙ at.owner))
-        (subst (λ (o : Option Schema). IsHosted state (owner_by w.stores (Some schema)) o table (new_table made) it) (sym schema_here) at));
+    there = put_there state w old.tables new table it u (new_hosted stage made) (owner_of v) (schema_at v) (λ q. others q (is_at (nat_cmp table) q) refl)
+        (subst (λ (n : ℕ). IsHosted state n (schema_at v table) table (new_hosted stage made) it) (sym (owner_here ∙ at.owner))
+        (subst (λ (o : Option Schema). IsHosted state (owner_by w.stores (Some schema)) o table (new_hosted stage made) it) (sym schema_here) at));
     keys = keys;
     rising = subst (λ (ks : List ℕ). IsStrictlySortedBy nat_cmp ks) (sym keys) rising;
   }
@@ -115,7 +115,7 @@ module _ {D : Type 0} (state : D → DiskState) (w : World) (old : StoreHost D) 
       same q own = ⊎_elim
           (λ e. absurd (apart (sym own ∙ (ap (owner_of v) e.0 ∙ owner_here))))
           (λ e. ap is_unmade e.1)
-          (look_cases w.tables table (new_table made) q)
+          (look_cases w.tables table (new_hosted stage made) q)
 
   store_else : (store : ℕ) → store ≢ it.node.store → (o : Option StoreState) → StoreThere w store o → StoreThere v store o
   store_else store apart None k = k
@@ -128,12 +128,12 @@ module _ {D : Type 0} (state : D → DiskState) (w : World) (old : StoreHost D) 
 
   put_up : AreUp v
   put_up q found there is out = ⊎_elim
-      (λ e. let both : Some (new_table made) ≡ Some found = sym e.1 ∙ there in let same : new_table made ≡ found = cc in
+      (λ e. let both : Some (new_hosted stage made) ≡ Some found = sym e.1 ∙ there in let same : new_hosted stage made ≡ found = cc in
       subst (λ (x : world.Hosted). IsUpAt x.store.agenda) same (up_here made (ap (λ (x : world.Hosted). x.made) same ∙ is)))
       (λ e. h.ups q found (sym e.1 ∙ there) is (ap (λ (n : ℕ). has_node w.downs (nodes.Store n)) (sym (owner_else q (away q e.0))) ∙ out))
-      (look_cases w.tables table (new_table made) q)
+      (look_cases w.tables table (new_hosted stage made) q)
     where
-      up_here : (b : Bool) → b ≡ true → IsUpAt (new_table b).store.agenda
+      up_here : (b : Bool) → b ≡ true → IsUpAt (new_hosted stage b).store.agenda
       up_here true is = ([], refl)
       up_here false is = absurd (true≢false (sym is))
 

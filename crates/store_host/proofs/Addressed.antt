@@ -11,7 +11,7 @@ use Rattle.step_tables.specs.Facts as facts
 use Rattle.step_tables.specs.Messages.{Luck, Send, Request, Pair}
 use Rattle.step_tables.specs.Messages as messages
 use Rattle.step_tables.specs.Store.{Stored, current_of}
-use Rattle.step_tables.specs.StoreMoves.{StoreDisk, StoreTask, TableStore, StoreMove, Take, Work, Crash, Start, store_step}
+use Rattle.step_tables.specs.StoreMoves.{StoreDisk, StoreTask, TableStore, StoreMove, SidePut, Place, placed, Take, Work, Crash, Start, store_step}
 use Rattle.step_tables.specs.StoreMoves.{takes, quiet, accepting, item_for, sending, responded, unaccepted, keeps_there, judged, decided, asked, version_of, taken, yours_in}
 use Rattle.step_tables.specs.StoreMoves.{worked, crashed, started, recover, recovered, item_at}
 use Rattle.store_commit.specs.Devs.{Write}
@@ -83,6 +83,7 @@ owed_to table (owed.Update to entry) steps.LogClose = ((to, refl), tt)
 owed_to table (owed.Update to entry) step = tt
 owed_to table owed.Nothing step = tt
 owed_to table (owed.Start store) step = tt
+owed_to table (owed.Place stage) step = tt
 
 task_to : (table : ℕ) (o : Owed) (ws : List Write) (task : StoreTask) (tasks : List StoreTask) → AreOwed table o ws (task ∷ tasks) → AreAddressed task.sends
 task_to table o [] task tasks h = absurd h
@@ -103,6 +104,11 @@ start_to store table d None = go d.pending
     go None = tt
     go (Some pending) = found pending (item_at pending.entry.version d.items)
 
+placed_to : (table : ℕ) (d : StoreDisk) (agenda : Option (List StoreTask)) (put : SidePut) → AreAddressed (placed table d agenda put).sends
+placed_to table d None put = tt
+placed_to table d (Some (task ∷ more)) put = tt
+placed_to table d (Some []) put = tt
+
 module _ {D : Type 0} (state : D → DiskState) (node : TableNode D) where
   work_to : (d : StoreDisk) (agenda : Option (List StoreTask)) (luck : Luck) → IsTable state node (record { disk = d; agenda = agenda }) → AreAddressed (worked d agenda luck).sends
   work_to d None messages.Done t = tt
@@ -114,6 +120,7 @@ module _ {D : Type 0} (state : D → DiskState) (node : TableNode D) where
   -- whatever the table does
   pub step_to : (store : ℕ) (g : Scheme) (size table : ℕ) (s : TableStore) (move : StoreMove) → IsTable state node s → AreAddressed (store_step store g size table s move).sends
   step_to store g size table s (Take from message) t = taken_to g size table s.disk from s.agenda message
+  step_to store g size table s (Place put) t = placed_to table s.disk s.agenda put
   step_to store g size table s (Work luck) t = work_to s.disk s.agenda luck t
   step_to store g size table s (Crash luck) t = crash_to s.disk s.agenda luck
   step_to store g size table s Start t = start_to store table s.disk s.agenda

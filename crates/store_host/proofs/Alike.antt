@@ -168,9 +168,9 @@ start_kept w table sorted = go (hosted_at w table) refl
         again : IsKept w (move_table table Start w).world
         again = (move_alike w table Start sorted).kept
 
-        by_made : (b : Bool) → IsKept w (if b then move_table table Start w else after_table w table (record hosted { made = true }) (declared_late (owner_of w table) table)).world
+        by_made : (b : Bool) → IsKept w (if b then move_table table Start w else after_table w table (record hosted { made = true }) (declared_late (owner_of w table) table hosted.store.disk.state)).world
         by_made true = again
-        by_made false = after_kept w table hosted (record hosted { made = true }) (declared_late (owner_of w table) table) sorted is
+        by_made false = after_kept w table hosted (record hosted { made = true }) (declared_late (owner_of w table) table hosted.store.disk.state) sorted is
 
 pub starts_kept : (tables : List ℕ) (lucks : List Luck) (w : World) → IsStrictlySortedBy nat_cmp (keys_of w.tables) → IsKept w (tables_start tables lucks w).world
 starts_kept [] lucks w sorted = kept_itself w

@@ -20,6 +20,7 @@ use Rattle.row_value.specs.declared.schema.Schema.{Schema}
 use Rattle.store_commit.specs.declared.devs.TableDevs.{TableDevs}
 use Rattle.store_commit.specs.Standing.{RowsLeave}
 use Rattle.store_node.specs.declared.node.TableNode.{TableNode}
+use Rattle.table_model.specs.declared.table_state.TableState.{TableState}
 use Rattle.store_node.specs.Node.{HasBlankDisks, HasNoRows}
 use Rattle.store_host.specs.declared.hosted.Hosted.{Hosted}
 use Rattle.store_host.specs.Holds.{IsBlankDisk, AreBlankDisks, LeavesNoRow}
@@ -45,13 +46,18 @@ module _ {D : Type 0} (state : D → DiskState) where
     im f = images (inner_of f)
 
     -- of the table that was put in
-    pub none_added : (made it : Hosted D) (start : TableDevs (FuseDisk D)) (schema : Schema) (row_disk : D) → it ≡ made → inner_of (disk_of (rows.vault_of start.rows)) ≡ row_disk → made.node.schema ≡ schema
-        → RowsLeave st im start made.node.devs (HasNoRows schema) → LeavesNoRow state images row_disk it
-    none_added made it start schema row_disk is from same run =
+    pub none_added : (made it : Hosted D) (start : TableDevs (FuseDisk D)) (schema : Schema) (stage : TableState) (row_disk : D) → it ≡ made → inner_of (disk_of (rows.vault_of start.rows)) ≡ row_disk → made.node.schema ≡ schema → made.node.state ≡ stage
+        → RowsLeave st im start made.node.devs (HasNoRows schema stage) → LeavesNoRow state images row_disk it
+    none_added made it start schema stage row_disk is from same first run =
         subst (λ (x : Hosted D). LeavesNoRow state images row_disk x) (sym is)
         (subst (λ (d : D). LeavesNoRow state images d made) from
-        (subst (λ (s : Schema). LeavesOnly state images (inner_of (disk_of (rows.vault_of start.rows))) (inner_of (disk_of (rows.vault_of made.node.devs.rows))) (StandsForOne (λ list. HasNoRows s (data_of list)))) (sym same)
-        (record { later = run.later; each = run.each; before = run.before })))
+        (subst (λ (s : Schema). Leaves s made.node.state) (sym same)
+        (subst (λ (s : TableState). Leaves schema s) (sym first)
+        (record { later = run.later; each = run.each; before = run.before }))))
+      where
+        Leaves : Schema → TableState → Type 0
+        Leaves s l =
+            LeavesOnly state images (inner_of (disk_of (rows.vault_of start.rows))) (inner_of (disk_of (rows.vault_of made.node.devs.rows))) (StandsForOne (λ list. HasNoRows s l (data_of list)))
 
 -- the table that was put in is the one that is there
 pub is_added : {D : Type 0} (old new : tree.BTreeMap ℕ (Hosted D)) (table : ℕ) (made it : Hosted D)

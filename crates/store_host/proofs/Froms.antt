@@ -148,9 +148,9 @@ module _ (Q : TableStore → TableStore → Type 0) (itself : (s : TableStore) �
           again : IsFrom Q w (move_table table Start w).world
           again = move_from Q itself Start (λ v t found. starts (owner_of v t) t found.store.disk found.store.agenda) w table
 
-          by_made : (b : Bool) → hosted.made ≡ b → IsFrom Q w (if b then move_table table Start w else after_table w table (record hosted { made = true }) (declared_late (owner_of w table) table)).world
+          by_made : (b : Bool) → hosted.made ≡ b → IsFrom Q w (if b then move_table table Start w else after_table w table (record hosted { made = true }) (declared_late (owner_of w table) table hosted.store.disk.state)).world
           by_made true made = again
-          by_made false made = after_from Q itself w table hosted (record hosted { made = true }) (declared_late (owner_of w table) table) is (λ e. absurd (let both : true ≡ false = sym e ∙ made in cc))
+          by_made false made = after_from Q itself w table hosted (record hosted { made = true }) (declared_late (owner_of w table) table hosted.store.disk.state) is (λ e. absurd (let both : true ≡ false = sym e ∙ made in cc))
 
   pub starts_go : (tables : List ℕ) (lucks : List Luck) (w : World) → IsFrom Q w (tables_start tables lucks w).world
   starts_go [] lucks w = from_itself Q itself w

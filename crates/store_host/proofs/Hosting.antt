@@ -1,5 +1,6 @@
 -- A table behind a step of its node, and what it tells put behind what was told.
-use Rattle.std.proofs.Common.{◌≡◌, inl, inr, ℕ, ◌<◌, ◌++◌, length, map, Bool, true, false, cond, List, [], ◌∷◌, Option, Some, None, Result, Ok, Err, refl, sym, ◌∙◌, ap, subst, append-nil}
+use Rattle.std.proofs.Common.{◌≡◌, ◌⊎◌, inl, inr, ⊎_elim, ℕ, ◌<◌, ◌++◌, length, map, Bool, true, false, cond, List, [], ◌∷◌, Option, Some, None, Result, Ok, Err, refl, sym, ◌∙◌, ap, subst, append-nil}
+use Rattle.std.proofs.lemmas.Result.{on_ok_weaker, on_err_weaker}
 use Rattle.std.specs.Prelude.{◌&&◌, filter, ◌==◌, nat_lt, ◌↔◌, OnOk, OnErr, IfErr, IsErrOf, if◌then◌else◌}
 use Rattle.std.proofs.lemmas.List.{map-append}
 use Rattle.disk_trait.specs.Calls.{DiskState}
@@ -13,7 +14,7 @@ use Rattle.step_tables.specs.Store.{current_of}
 use Rattle.step_tables.specs.Travels.{message_of}
 use Rattle.step_tables.specs.declared.message.Message.{Message}
 use Rattle.step_tables.specs.Messages as messages
-use Rattle.step_tables.specs.StoreMoves.{StoreDisk, StoreTask, TableStore, StoreStep, Take, Start, crashed, worked, store_step}
+use Rattle.step_tables.specs.StoreMoves.{StoreDisk, StoreTask, TableStore, StoreStep, Take, Start, crashed, worked, store_step, StoreMove, SidePut, Place, placed}
 use Rattle.step_tables.specs.StoreMoves.{takes, quiet, accepting, item_for, sending, responded, unaccepted, keeps_there, judged, decided, asked, version_of, version_at, taken, yours_in}
 use Rattle.step_tables.specs.Chunks.{is_spelled}
 use Rattle.store_node.specs.declared.node.TableNode.{TableNode}
@@ -24,24 +25,25 @@ use Rattle.store_node.specs.Due.{fact_of}
 use Rattle.store_node.specs.Node.{IsTable, IsNode, IsSame, told_by, sent_by}
 use Rattle.stab_base.specs.declared.step.Step.TheVariants as steps
 use Rattle.stab_base.specs.declared.step.Step.{Step}
-use Rattle.step_tables.specs.StoreMoves.{started}
+use Rattle.step_tables.specs.StoreMoves.{started, new_disk}
 use Rattle.step_tables.specs.Facts as facts
 use Rattle.disk_trait.specs.declared.fuse.FuseDisk.{FuseDisk}
 use Rattle.store_commit.specs.declared.devs.TableDevs.{TableDevs}
 use Rattle.store_node.specs.declared.fault.NodeFault.{NodeFault}
-use Rattle.store_node.specs.declared.fault.NodeFault.TheVariants.{Busy, Disk as DiskFailed, Memory}
+use Rattle.store_node.specs.declared.fault.NodeFault.TheVariants.{Busy, Spent, Disk as DiskFailed, Memory}
 use Rattle.store_node.specs.declared.showing.ShownRow.{ShownRow}
 use Rattle.store_node.specs.declared.showing.WholeRow.{WholeRow}
 use Rattle.disk_trait.specs.Fuse.{behind, inner_of}
 use Rattle.store_commit.specs.Standing.{RowsLeave}
-use Rattle.store_node.specs.Node.{nothing_stored, own_faults, has_task, HasBlankDisks, HasNoRows}
-use Rattle.store_node.specs.Calls.{IsBehind, Declares, Starts, Stays, Shows, Gives, Delivers, IsAtWork, named, late, step_at}
-use Rattle.world_tables.specs.World.{Outbox, Packet, history_on, packets_from, next_step, tasks_in, declared_late, scheme_in, chunk_in}
+use Rattle.table_model.specs.declared.table_state.TableState.{TableState}
+use Rattle.store_node.specs.Node.{own_faults, has_task, HasBlankDisks, HasNoRows}
+use Rattle.store_node.specs.Calls.{IsBehind, Declares, Starts, Stays, Shows, Gives, Delivers, IsAtWork, named, late, step_at, Places}
+use Rattle.world_tables.specs.World.{Outbox, Packet, history_on, packets_from, next_step, tasks_in, declared_late, new_hosted, scheme_in, chunk_in}
 use Rattle.world_tables.specs.World as world
 use Rattle.store_host.specs.declared.hosted.Hosted.{Hosted}
 use Rattle.store_host.specs.declared.hosted.TableOut.{TableOut}
 use Rattle.store_host.specs.Holds.{IsHosted, IsUpAt, behind_step, outs_in, outbox_of, says_something}
-use Rattle.store_host.specs.Steps.{IsTelling, HasTold, HasNodeCause, started_by, moved_at, new_table, outbox_at, IsBusy, HasTaken, HasNodeTakeCause, HasShown, HasGiven}
+use Rattle.store_host.specs.Steps.{IsTelling, HasTold, HasNodeCause, started_by, moved_at, outbox_at, IsBusy, HasTaken, HasNodeTakeCause, HasShown, HasGiven, HasPlaced, IsTakeFault, state_up}
 
 -- ---- what says something
 
@@ -155,12 +157,17 @@ module _ {D : Type 0} (state : D → DiskState) (store : ℕ) (schema : Option S
   stands_at old new s b kept number = subst (λ (t : ℕ). IsBehind state old new (started store t s.disk s.agenda)) number
       (subst (λ (n : ℕ). IsBehind state old new (started n old.table s.disk s.agenda)) kept b)
 
-  late_at : (old new : TableNode D) → IsBehind state old new (late old) → old.store ≡ store → old.table ≡ table → IsBehind state old new (declared_late store table)
-  late_at old new b kept number =
-      subst (λ (t : ℕ). IsBehind state old new (record { store = record { disk = nothing_stored; agenda = Some [] }; answer = facts.Done; facts = facts.StoreRecovered store t ∷ []; sends = [] }))
-      number
-      (subst (λ (n : ℕ). IsBehind state old new
-      (record { store = record { disk = nothing_stored; agenda = Some [] }; answer = facts.Done; facts = facts.StoreRecovered n old.table ∷ []; sends = [] })) kept b)
+  -- the state in which a table is declared
+  pub first_is : (node : TableNode D) (disk : StoreDisk) (agenda : Option (List StoreTask)) → IsTable state node (record { disk = disk; agenda = agenda }) → node.is_declared ≡ false
+      → node.state ≡ disk.state
+  first_is node disk None t isnt = sym (ap (λ (d : StoreDisk). d.state) (t.at.1.nothing isnt))
+  first_is node disk (Some tasks) t isnt = let is = t.at.1.declared in absurd cc
+
+  late_at : (old new : TableNode D) (stage : TableState) → IsBehind state old new (late old) → old.store ≡ store → old.table ≡ table → old.state ≡ stage
+      → IsBehind state old new (declared_late store table stage)
+  late_at old new stage b kept number first =
+      subst (λ (l : TableState). IsBehind state old new (declared_late store table l)) first
+      (subst (λ (t : ℕ). IsBehind state old new (declared_late store t old.state)) number (subst (λ (n : ℕ). IsBehind state old new (declared_late n old.table old.state)) kept b))
 
   pub starting : (images : D → ℕ → List ℕ → Type 0) (s : TableStore) (history : List Entry) (made : Bool) (old : Hosted D) (node : TableNode D)
       → IsHosted state store schema table (record { store = s; history = history; made = made }) old
@@ -172,9 +179,9 @@ module _ {D : Type 0} (state : D → DiskState) (store : ℕ) (schema : Option S
       telling state store schema table (record { store = s; history = history; made = true }) (started store table s.disk s.agenda) old (record { node = node; history = old.history }) h b true
       (up_declared node (started store table s.disk s.agenda).store.disk (started store table s.disk s.agenda).store.agenda b.table up) refl
   starting images s history false old node h k up =
-      let b = late_at old.node node (k.declared h.made) h.owner h.number in
-      telling state store schema table (record { store = s; history = history; made = false }) (declared_late store table) old (record { node = node; history = old.history }) h b true
-      (up_declared node nothing_stored (Some []) b.table up) refl
+      let b = late_at old.node node s.disk.state (k.declared h.made) h.owner h.number (first_is old.node s.disk s.agenda h.node h.made) in
+      telling state store schema table (record { store = s; history = history; made = false }) (declared_late store table s.disk.state) old (record { node = node; history = old.history }) h b true
+      (up_declared node (new_disk s.disk.state) (Some []) b.table up) refl
 
   pub not_started : (hosted : world.Hosted) (old : Hosted D) (node : TableNode D) → IsHosted state store schema table hosted old → Stays state old.node node hosted.store
       → node.is_declared ≡ old.node.is_declared
@@ -192,34 +199,37 @@ module _ {D : Type 0} (state : D → DiskState) (store : ℕ) (schema : Option S
 
 -- ---- a table that is made
 
-module _ {D : Type 0} (state : D → DiskState) (store : ℕ) (schema : Option Schema) (table : ℕ) (old : Hosted D) (h : IsHosted state store schema table (new_table false) old) where
-  made_up : (node : TableNode D) → Stays state old.node node (record { disk = nothing_stored; agenda = Some [] }) → node.is_up ≡ true
-      → IsHosted state store schema table (new_table true) (record { node = node; history = old.history })
+module _ {D : Type 0} (state : D → DiskState) (store : ℕ) (schema : Option Schema) (table : ℕ) (stage : TableState) (old : Hosted D) (h : IsHosted state store schema table (new_hosted stage false) old) where
+  made_up : (node : TableNode D) → Stays state old.node node (record { disk = new_disk stage; agenda = Some [] }) → node.is_up ≡ true
+      → IsHosted state store schema table (new_hosted stage true) (record { node = node; history = old.history })
   made_up node k up = record {
     schema = h.schema ∙ ap Some (sym k.same.schema);
     number = k.same.table ∙ h.number;
     owner = k.same.store ∙ h.owner;
     node = k.table;
-    made = up_declared state store schema table node nothing_stored (Some []) k.table up;
+    made = up_declared state store schema table node (new_disk stage) (Some []) k.table up;
     history = h.history;
     told = k.told ∙ h.told;
     sent = k.sent ∙ h.sent;
   }
 
   module _ (images : D → ℕ → List ℕ → Type 0) (node : TableNode D) where
-    pub made_here : (r : Result (Unit {0}) NodeFault) → Declares state images (new_table false).store old.node node r → OnOk r (node.is_up ≡ true)
-        → OnOk r (IsHosted state store schema table (new_table true) (record { node = node; history = old.history }))
-    made_here (Ok x) k up = made_up node k.declared up
+    pub made_here : (r : Result (Unit {0}) NodeFault) → Declares state images (new_hosted stage false).store old.node node r → OnOk r (node.is_up ≡ true)
+        → OnOk r (IsHosted state store schema table (new_hosted stage true) (record { node = node; history = old.history }))
+    made_here (Ok x) k up = made_up node (subst (λ (l : TableState). Stays state old.node node (record { disk = new_disk l; agenda = Some [] })) first k.declared) up
+      where
+        first : old.node.state ≡ stage
+        first = first_is state store schema table old.node (new_disk stage) None h.node h.made
     made_here (Err e) k up = tt
 
-    pub not_made : (r : Result (Unit {0}) NodeFault) → Declares state images (new_table false).store old.node node r → OnErr r (node.is_declared ≡ old.node.is_declared)
-        → OnErr r (IsHosted state store schema table (new_table false) (record { node = node; history = old.history }))
+    pub not_made : (r : Result (Unit {0}) NodeFault) → Declares state images (new_hosted stage false).store old.node node r → OnErr r (node.is_declared ≡ old.node.is_declared)
+        → OnErr r (IsHosted state store schema table (new_hosted stage false) (record { node = node; history = old.history }))
     not_made (Ok x) k kept = tt
-    not_made (Err e) k kept = not_started state store schema table (new_table false) old node h k.refused kept
+    not_made (Err e) k kept = not_started state store schema table (new_hosted stage false) old node h k.refused kept
 
 module _ {D : Type 0} (state : D → DiskState) (images : D → ℕ → List ℕ → Type 0) (s : TableStore) (old node : TableNode D) where
   pub made_blank : (r : Result (Unit {0}) NodeFault) → Declares state images s old node r → HasBlankDisks state old
-      → OnOk r (RowsLeave (behind state) (λ f. images (inner_of f)) old.devs node.devs (HasNoRows old.schema))
+      → OnOk r (RowsLeave (behind state) (λ f. images (inner_of f)) old.devs node.devs (HasNoRows old.schema old.state))
   made_blank (Ok x) k blank = (k.none blank).rows_left
   made_blank (Err e) k blank = tt
 
@@ -308,6 +318,16 @@ module _ (g : Scheme) (size table : ℕ) (d : StoreDisk) (from : Node) where
   take_facts (Some []) (messages.TornRowRequest q) = refl
   take_facts (Some []) (messages.TornRowResponse q) = refl
 
+-- a put beside the rows tells and sends nothing where it begins
+place_silent : (table : ℕ) (d : StoreDisk) (agenda : Option (List StoreTask)) (put : SidePut) → ((placed table d agenda put).facts ≡ []) × ((placed table d agenda put).sends ≡ [])
+place_silent table d None put = (refl, refl)
+place_silent table d (Some (task ∷ more)) put = (refl, refl)
+place_silent table d (Some []) put = (refl, refl)
+
+versions_left : (r : Result (Unit {0}) NodeFault) (last : ℕ) → IfErr r (λ e. ((version : ℕ) × (e ≡ Busy version)) ⊎ ((e ≡ DiskFailed) ⊎ (e ≡ Memory))) → IsErrOf r (Spent last) → ⊥
+versions_left (Ok x) last only is = cc
+versions_left (Err e) last only is = let same : e ≡ Spent last = cc in ⊎_elim (λ b. let was = b.1 in cc) (λ more. ⊎_elim (λ a. cc) (λ a. cc) more) only
+
 module _ {D : Type 0} (state : D → DiskState) (images : D → ℕ → List ℕ → Type 0) (store : ℕ) (schema : Option Schema) (table : ℕ) where
   abbrev at : StoreDisk → Option (List StoreTask) → List Entry → Bool → world.Hosted
   at disk agenda history made = record { store = record { disk = disk; agenda = agenda }; history = history; made = made }
@@ -353,6 +373,32 @@ module _ {D : Type 0} (state : D → DiskState) (images : D → ℕ → List ℕ
       stays = λ no. not_started state store schema table hosted old node h (k.stays no) declared;
       fallen = λ is. failed_down hosted.store.disk hosted.store.agenda hosted.history hosted.made old node is_up h (k.fallen is) declared;
     }
+
+    moved_as : (move : StoreMove) → step_at old.node hosted.store move ≡ moved_at store schema table hosted move
+    moved_as move =
+        ap (λ (n : ℕ). store_step n old.node.schema.scheme old.node.schema.chunk old.node.table hosted.store move) h.owner
+        ∙ (ap (λ (t : ℕ). store_step store old.node.schema.scheme old.node.schema.chunk t hosted.store move) h.number
+        ∙ ap (λ (o : Option Schema). store_step store (scheme_in o) (chunk_in o) table hosted.store move) (sym h.schema))
+
+    pub places_hosted : (put : SidePut) (node : TableNode D) (r : Result (Unit {0}) NodeFault) → Places state images hosted.store put old.node node r → node.is_declared ≡ old.node.is_declared
+        → HasPlaced state store schema table hosted put (record { node = node; history = old.history }) r
+    places_hosted put node r k declared = record {
+      placed = λ outs. on_ok_weaker r (λ b. placed_by outs b) k.placed;
+      idle = idle_by hosted.store.disk hosted.store.agenda r is_up k.busy;
+      busy = k.busy;
+      not_spent = λ last is. versions_left r last k.only is;
+      refused = λ no. on_err_weaker r (λ s. not_started state store schema table hosted old node h s declared) (k.refused no);
+      fallen = λ is. failed_down hosted.store.disk hosted.store.agenda hosted.history hosted.made old node is_up h (k.fallen is) declared;
+    }
+      where
+        placed_by : (outs : List TableOut) → IsBehind state old.node node (step_at old.node hosted.store (Place put))
+            → HasTold state store schema table hosted (moved_at store schema table hosted (Place put)) (record { node = node; history = old.history }) outs outs
+        placed_by outs b =
+            let s = moved_at store schema table hosted (Place put) in
+            let behind : IsBehind state old.node node s = subst (λ (x : StoreStep). IsBehind state old.node node x) (moved_as (Place put)) b in
+            let none = place_silent table hosted.store.disk hosted.store.agenda put in
+            silent state store schema table hosted s (record { node = node; history = old.history }) outs
+            (telling state store schema table hosted s old (record { node = node; history = old.history }) h behind hosted.made (declared ∙ h.made) refl) none.0 none.1
 
     module _ (from : Node) (message : Message) where
       -- want of memory, where nothing is to be done
@@ -450,3 +496,21 @@ module _ {D : Type 0} (state : D → DiskState) (images : D → ℕ → List ℕ
 pub take_cause : {D : Type 0} (state : D → DiskState) (images : D → ℕ → List ℕ → Type 0) (s : TableStore) (from : Node) (message : Message) (old new : TableNode D) (r : Result (Unit {0}) NodeFault)
     → Delivers state images s from message old new r → HasNodeTakeCause state old new r
 take_cause state images s from message old new r k = record { counted = k.counted; cause = k.cause; only = k.only }
+
+pub place_cause : {D : Type 0} (state : D → DiskState) (images : D → ℕ → List ℕ → Type 0) (s : TableStore) (put : SidePut) (old new : TableNode D) (r : Result (Unit {0}) NodeFault)
+    → Places state images s put old new r → HasNodeTakeCause state old new r
+place_cause state images s put old new r k = record { counted = k.counted; cause = k.cause; only = wider r k.only }
+  where
+    wider : (r : Result (Unit {0}) NodeFault) → IfErr r (λ e. ((version : ℕ) × (e ≡ Busy version)) ⊎ ((e ≡ DiskFailed) ⊎ (e ≡ Memory))) → IfErr r IsTakeFault
+    wider (Ok x) only = tt
+    wider (Err e) only = ⊎_elim (λ b. inl b) (λ more. inr (inr more)) only
+
+pub up_state : {D : Type 0} (state : D → DiskState) (node : TableNode D) (disk : StoreDisk) (agenda : Option (List StoreTask)) → IsTable state node (record { disk = disk; agenda = agenda }) → node.is_up ≡ true
+    → (stage : TableState) → stage ≡ disk.state → Some stage ≡ state_up (record { disk = disk; agenda = agenda })
+up_state state node disk None t up stage is = let down = t.at.0 in absurd cc
+up_state state node disk (Some tasks) t up stage is = ap (λ (l : TableState). Some l) is
+
+pub down_state : {D : Type 0} (state : D → DiskState) (node : TableNode D) (disk : StoreDisk) (agenda : Option (List StoreTask)) → IsTable state node (record { disk = disk; agenda = agenda }) → node.is_up ≡ false
+    → None ≡ state_up (record { disk = disk; agenda = agenda })
+down_state state node disk None t down = refl
+down_state state node disk (Some tasks) t down = let up = t.at.0 in absurd cc

@@ -27,7 +27,7 @@ use Rattle.step_tables.specs.declared.message.Message.{Message}
 use Rattle.step_tables.specs.declared.message.Message.TheVariants as kinds
 use Rattle.step_tables.specs.Messages.{Luck, Request, Pair}
 use Rattle.step_tables.specs.Messages as messages
-use Rattle.step_tables.specs.StoreMoves.{StoreDisk, StoreTask, TableStore, StoreStep, StoreMove, Take, Work, Crash, Start, crashed, worked, started, recover, recovered, item_at}
+use Rattle.step_tables.specs.StoreMoves.{StoreDisk, StoreTask, TableStore, StoreStep, StoreMove, SidePut, Take, Place, placed, Work, Crash, Start, crashed, worked, started, recover, recovered, item_at}
 use Rattle.step_tables.specs.StoreMoves.{takes, quiet, accepting, item_for, sending, responded, unaccepted, keeps_there, judged, decided, asked, version_of, taken, yours_in}
 use Rattle.step_tables.specs.Chunks.{is_spelled}
 use Rattle.store_node.specs.declared.fault.NodeFault.{NodeFault}
@@ -46,8 +46,8 @@ use Rattle.world_tables.specs.World as world
 use Rattle.store_host.specs.declared.hosted.Hosted.{Hosted}
 use Rattle.store_host.specs.declared.hosted.TableOut.{TableOut}
 use Rattle.store_host.specs.Holds.{IsHosted, HostedThere, HoldsTables, IsUpNode, IsUpTable, behind_step, outs_in, says_something, said_by, faults_in, faults_at, SameFaults, RisenFaults}
-use Rattle.store_host.specs.Steps.{HasTold, HasNodeCause, moved_at, started_by, HasTaken, HasNodeTakeCause, HasShown, HasGiven}
-use Rattle.store_host.specs.Calls.{version_by, AreMoved, restart_moves, HasCause, FitsIn, AreTaken, HasTakeCause, AreShown, AreGiven, table_in}
+use Rattle.store_host.specs.Steps.{HasTold, HasNodeCause, moved_at, started_by, HasTaken, HasNodeTakeCause, HasShown, HasGiven, HasPlaced}
+use Rattle.store_host.specs.Calls.{version_by, AreMoved, restart_moves, HasCause, FitsIn, AreTaken, HasTakeCause, AreShown, AreGiven, table_in, ArePlaced}
 use Rattle.store_host.proofs.Froms.{IsFrom, SameDisk, from_itself, from_then, same_then, start_from}
 use Rattle.store_host.proofs.Addressed.{AreAddressed, packets_same, step_to}
 use Rattle.store_host.proofs.Maps.{moved_tables, found, not_found, at_same}
@@ -408,7 +408,7 @@ module _ {D : Type 0} (state : D → DiskState) (w : World) (old new : tree.BTre
   table_started store history false before after there t =
       subst (λ (o : Option world.Hosted). AreMoved state w new before after false (start_hosted w table o)) (sym there)
       (told_after state w old new table it was at wrote h (record { store = store; history = history; made = false }) (record { store = store; history = history; made = true })
-      (declared_late (owner_of w table) table) before after there tt t)
+      (declared_late (owner_of w table) table store.disk.state) before after there tt t)
 
 -- ---- messages and rows
 
@@ -445,6 +445,11 @@ module _ (g : Scheme) (size table : ℕ) (d : StoreDisk) (from : Node) where
   take_answer (Some []) (messages.PullResponse q) = refl
   take_answer (Some []) (messages.TornRowRequest q) = refl
   take_answer (Some []) (messages.TornRowResponse q) = refl
+
+place_answer : (table : ℕ) (d : StoreDisk) (agenda : Option (List StoreTask)) (put : SidePut) → is_fault (placed table d agenda put).answer ≡ false
+place_answer table d None put = refl
+place_answer table d (Some (task ∷ more)) put = refl
+place_answer table d (Some []) put = refl
 
 fits_there : (w : World) (message : Message) (schema : Schema) → schema_at w (table_in message) ≡ Some schema → FitsIn w message → Fits schema message
 fits_there w (kinds.SyncRequest q) schema is f = (f.0 schema is, f.1)
@@ -535,6 +540,27 @@ module _ {D : Type 0} (state : D → DiskState) (w : World) (old new : tree.BTre
             table_moved state w old new table it was at wrote h (Crash messages.FailedBefore) hosted [] [] false f.1 (k.fallen is) (crash_answer hosted.store.disk hosted.store.agenda messages.FailedBefore);
       }
 
+  pub tables_placed : (table : ℕ) → Some was ≡ tree.get nat_cmp old table → WritesThrough nat_cmp (nat_cmp table) old it new → (put : SidePut) (r : Result (Unit {0}) NodeFault)
+      → ((hosted : world.Hosted) → IsHosted state (owner_of w table) (schema_at w table) table hosted was → HasPlaced state (owner_of w table) (schema_at w table) table hosted put it r) → ArePlaced state w table put new r
+  tables_placed table at wrote put r place =
+      let f = found state w old table was h at in
+      let hosted = f.0 in
+      let k = place f.0 f.2 in
+      let agenda_is : (other : world.Hosted) → hosted_at w table ≡ Some other → hosted ≡ other = λ other here. same_hosted (hosted_at w table) hosted other f.1 here in
+      record {
+        done = λ outs.
+            on_ok_weaker r (λ t. table_moved state w old new table it was at wrote h (Place put) hosted outs outs false f.1 t (place_answer table hosted.store.disk hosted.store.agenda put)) (k.placed outs);
+        idle = λ no other here. subst (λ (x : world.Hosted). x.store.agenda ≡ Some []) (agenda_is other here) (k.idle no);
+        busy = λ version. (
+          λ e. (hosted, f.1, (k.busy version).0 e),
+          λ b. (k.busy version).1 (subst (λ (x : world.Hosted). IsAtWork x.store.disk x.store.agenda version) (sym (agenda_is b.0 b.1)) b.2),
+        );
+        not_spent = k.not_spent;
+        refused = λ no. on_err_weaker r (λ t. same_tables state w old new table it was at wrote h hosted f.1 t) (k.refused no);
+        fallen = λ is.
+            table_moved state w old new table it was at wrote h (Crash messages.FailedBefore) hosted [] [] false f.1 (k.fallen is) (crash_answer hosted.store.disk hosted.store.agenda messages.FailedBefore);
+      }
+
   pub tables_take_cause : (table : ℕ) → Some was ≡ tree.get nat_cmp old table → WritesThrough nat_cmp (nat_cmp table) old it new → (r : Result (Unit {0}) NodeFault)
       → HasNodeTakeCause state was.node it.node r → HasTakeCause state old new r
   tables_take_cause table at wrote r k = record {
@@ -565,6 +591,24 @@ pub lost : {D : Type 0} (state : D → DiskState) (w : World) (tables : tree.BTr
     → HoldsTables state w tables → None ≡ tree.get nat_cmp tables table → AreTaken state w from message tables outs outs (Ok tt)
 lost state w tables from message outs table is h none =
     lost_at state w tables from message outs h (subst (λ (t : ℕ). hosted_at w t ≡ None) is (not_found state w tables table h none))
+
+-- a put for a table that isn't there
+pub lost_put : {D : Type 0} (state : D → DiskState) (w : World) (tables : tree.BTreeMap ℕ (Hosted D)) (table : ℕ) (put : SidePut) → HoldsTables state w tables → None ≡ tree.get nat_cmp tables table
+    → ArePlaced state w table put tables (Ok tt)
+lost_put state w tables table put h none = record {
+  done = λ outs. subst (λ (o : Option world.Hosted). AreMoved state w tables outs outs false (move_hosted w table (Place put) o)) (sym away) (nothing_moved state w tables outs h);
+  idle = λ no hosted here. absurd (gone hosted here);
+  busy = λ version. (λ e. absurd cc, λ b. absurd (gone b.0 b.1));
+  not_spent = λ last e. absurd cc;
+  refused = λ no. tt;
+  fallen = λ is. absurd cc;
+}
+  where
+    away : hosted_at w table ≡ None
+    away = not_found state w tables table h none
+
+    gone : (hosted : world.Hosted) → hosted_at w table ≡ Some hosted → ⊥
+    gone hosted here = let both : None ≡ Some hosted = sym away ∙ here in cc
 
 pub no_take_cause : {D : Type 0} (state : D → DiskState) (tables : tree.BTreeMap ℕ (Hosted D)) → HasTakeCause state tables tables (Ok tt)
 no_take_cause state tables = record { counted = λ none q. refl; cause = λ failed. absurd cc; only = tt }

@@ -9,7 +9,7 @@ use Rattle.disk_trait.specs.Calls.{DiskState}
 use Rattle.stab_base.specs.declared.node.Node.{Node}
 use Rattle.stab_base.specs.declared.node.Node.TheVariants as nodes
 use Rattle.step_tables.specs.Messages as messages
-use Rattle.step_tables.specs.StoreMoves.{Take, Crash}
+use Rattle.step_tables.specs.StoreMoves.{SidePut, Take, Place, Crash}
 use Rattle.step_tables.specs.Travels.{message_of}
 use Rattle.step_tables.specs.declared.message.Message.{Message}
 use Rattle.store_node.specs.declared.fault.NodeFault.{NodeFault}
@@ -22,12 +22,12 @@ use Rattle.store_host.specs.declared.hosted.TableOut.{TableOut}
 use Rattle.store_host.specs.declared.host.StoreHost.{StoreHost}
 use Rattle.store_host.specs.declared.store.StoreState.{StoreState}
 use Rattle.store_host.specs.Holds.{HoldsTables, HoldsParts, HoldsStore, StoreThere, IsUpNode, IsUpTable, store_in, owner_at, is_up_by, is_up_at, is_up_if, is_up_for, outs_in}
-use Rattle.store_host.specs.Calls.{AreMoved, IsMoved, AreTaken, Takes, AreShown, ShowsRow, AreGiven, GivesRow, table_in}
+use Rattle.store_host.specs.Calls.{AreMoved, IsMoved, ArePlaced, PutsBeside, AreTaken, Takes, AreShown, ShowsRow, AreGiven, GivesRow, table_in}
 use Rattle.store_host.proofs.Hosting.{up_node}
 use Rattle.store_host.proofs.Maps.{has, has_found, found}
 use Rattle.store_host.proofs.Alike.{alike_but, move_alike, has_same}
 use Rattle.store_host.proofs.Downs.{owns, number_same}
-use Rattle.store_host.proofs.Ups.{take_up, move_but}
+use Rattle.store_host.proofs.Ups.{take_up, place_up, move_but}
 use Rattle.store_host.proofs.Stores.{moved_is, moved_parts}
 use Rattle.store_host.proofs.Falls.{falls_again}
 
@@ -182,3 +182,34 @@ module _ {D : Type 0} (state : D → DiskState) (w : World) (old : StoreHost D) 
 
     pub gave_parts : (number : ℕ) → owner_of w table ≡ number → (e : NodeFault) → e ≡ DiskFailed → AreGiven state w table row tables (Err e) → HoldsParts state (table_falls table w).world number (record old { tables = tables; outs = old.outs })
     gave_parts number own e is k = table_fell table number own tables old.outs (k.fallen (ap Err is))
+
+  -- ---- what is put beside the rows
+
+  module _ (table : ℕ) (put : SidePut) (tables : tree.BTreeMap ℕ (Hosted D)) where
+    pub placed_well : (r : Result (Unit {0}) NodeFault) → (IsErrOf r DiskFailed → ⊥) → ArePlaced state w table put tables r → PutsBeside state w table put old (record old { tables = tables }) r
+    placed_well r sound k = record {
+      done = on_ok_weaker r (λ a. moved_is state w old h tables old.outs false _ a (move_alike w table (Place put) h.tables.rising) (place_up w table put h.ups)) (k.done old.outs);
+      idle = k.idle;
+      busy = k.busy;
+      not_spent = k.not_spent;
+      refused = λ other. on_err_weaker r (λ a. same_store tables old.outs a) (k.refused other);
+      fallen = λ is. absurd (sound is);
+    }
+
+    placed_badly : (number : ℕ) → owner_of w table ≡ number → has_store w number ≡ true → (new : StoreHost D) → ArePlaced state w table put tables (Err DiskFailed)
+        → ((x : World) → HoldsParts state x number (record old { tables = tables }) → has_store x number ≡ true → IsMoved state (record old { tables = tables }) new (store_falls number x)) → PutsBeside state w table put old new (Err DiskFailed)
+    placed_badly number own declared new k falls = record {
+      done = tt;
+      idle = k.idle;
+      busy = k.busy;
+      not_spent = k.not_spent;
+      refused = λ no. absurd (no refl);
+      fallen = λ _. falls_with table number own tables old.outs new declared (k.fallen refl) refl falls;
+    }
+
+    pub placed_falling : (number : ℕ) → owner_of w table ≡ number → has_store w number ≡ true → (new : StoreHost D) (e : NodeFault) → e ≡ DiskFailed → ArePlaced state w table put tables (Err e)
+        → ((x : World) → HoldsParts state x number (record old { tables = tables }) → has_store x number ≡ true → IsMoved state (record old { tables = tables }) new (store_falls number x)) → PutsBeside state w table put old new (Err DiskFailed)
+    placed_falling number own declared new e is k = placed_badly number own declared new (subst (λ (f : NodeFault). ArePlaced state w table put tables (Err f)) is k)
+
+    pub placed_parts : (number : ℕ) → owner_of w table ≡ number → (e : NodeFault) → e ≡ DiskFailed → ArePlaced state w table put tables (Err e) → HoldsParts state (table_falls table w).world number (record old { tables = tables; outs = old.outs })
+    placed_parts number own e is k = table_fell table number own tables old.outs (k.fallen (ap Err is))

@@ -12,7 +12,7 @@ use Rattle.step_tables.specs.Messages.{Request, Pair, Message, Luck, SyncRequest
 use Rattle.step_tables.specs.Facts as facts
 use Rattle.step_tables.specs.Messages as messages
 use Rattle.step_tables.specs.StoreMoves as store
-use Rattle.step_tables.specs.StoreMoves.{StoreDisk, StoreTask, StoreMove, StoreStep}
+use Rattle.step_tables.specs.StoreMoves.{StoreDisk, StoreTask, StoreMove, SidePut, StoreStep}
 use Rattle.world_tables.specs.World.{World, Hosted, Moved, schema_at, hosted_at, owner_of, has_store, tables_of, has_node, without_down, is_unmade, has_unmade, scheme_in, chunk_in, and_then, and_unless}
 use Rattle.world_tables.specs.World.{first_luck, other_lucks, after_table, table_step, move_hosted, move_table, declared_late, start_hosted, table_starts, table_falls, tables_fall, tables_start, table_crashes, busy_table}
 use Rattle.store_host.specs.Holds.{IsUpAt, AreUp, AreUpBut, behind_step}
@@ -62,6 +62,11 @@ module _ (x : Scheme) (size table : ℕ) (d : StoreDisk) where
   taken_at None up from m = absurd (let e = up.1 in cc)
   taken_at (Some agenda) up from m = taken_up agenda from m
 
+  pub placed_at : (o : Option (List StoreTask)) → IsUpAt o → (put : SidePut) → IsUpAt (store.placed table d o put).store.agenda
+  placed_at None up put = absurd (let e = up.1 in cc)
+  placed_at (Some (task ∷ more)) up put = (task ∷ more, refl)
+  placed_at (Some []) up put = (_, refl)
+
   pub done_at : (o : Option (List StoreTask)) → IsUpAt o → IsUpAt (store.done d o).store.agenda
   done_at None up = absurd (let e = up.1 in cc)
   done_at (Some []) up = ([], refl)
@@ -103,6 +108,10 @@ move_up w table move f all = go (hosted_at w table) refl
 pub take_up : (w : World) (table : ℕ) (from : Node) (m : Message) → AreUp w → AreUp (move_table table (store.Take from m) w).world
 take_up w table from m up = move_up w table (store.Take from m)
     (λ hosted at is. taken_at (scheme_in (schema_at w table)) (chunk_in (schema_at w table)) table hosted.store.disk hosted.store.agenda is from m) up
+
+pub place_up : (w : World) (table : ℕ) (put : SidePut) → AreUp w → AreUp (move_table table (store.Place put) w).world
+place_up w table put up = move_up w table (store.Place put)
+    (λ hosted at is. placed_at (scheme_in (schema_at w table)) (chunk_in (schema_at w table)) table hosted.store.disk hosted.store.agenda is put) up
 
 pub work_up : (w : World) (table : ℕ) → AreUp w → AreUp (move_table table (store.Work messages.Done) w).world
 work_up w table up = move_up w table (store.Work messages.Done)
@@ -147,7 +156,7 @@ start_other w table q apart = go (hosted_at w table)
     go (Some hosted) = by_made hosted.made
       where
         late : StoreStep
-        late = declared_late (owner_of w table) table
+        late = declared_late (owner_of w table) table hosted.store.disk.state
 
         by_made : (b : Bool) → hosted_at (if b then move_table table store.Start w else after_table w table (record hosted { made = true }) late).world q ≡ hosted_at w q
         by_made true = move_other w table store.Start q apart
@@ -216,10 +225,10 @@ start_here w table = go (hosted_at w table) refl
     go None is = λ hosted at. absurd (let both : None ≡ Some hosted = sym is ∙ at in cc)
     go (Some hosted) is = by_made hosted.made refl
       where
-        by_made : (b : Bool) → hosted.made ≡ b → StartedAt (if b then move_table table store.Start w else after_table w table (record hosted { made = true }) (declared_late (owner_of w table) table)).world table
+        by_made : (b : Bool) → hosted.made ≡ b → StartedAt (if b then move_table table store.Start w else after_table w table (record hosted { made = true }) (declared_late (owner_of w table) table hosted.store.disk.state)).world table
         by_made true made = subst (λ (o : Option Hosted). StartedAt (move_hosted w table store.Start o).world table) (sym is)
             (behind hosted (table_step w table hosted store.Start) (started_at (scheme_in (schema_at w table)) (chunk_in (schema_at w table)) table hosted.store.disk (owner_of w table) hosted.store.agenda) made)
-        by_made false made = behind (record hosted { made = true }) (declared_late (owner_of w table) table) ([], refl) refl
+        by_made false made = behind (record hosted { made = true }) (declared_late (owner_of w table) table hosted.store.disk.state) ([], refl) refl
 
 starts_here : (ks : List ℕ) (lucks : List Luck) (w : World) (q : ℕ) → (has ks q ≡ true) ⊎ StartedAt w q → (tables_start ks lucks w).failed ≡ false → StartedAt (tables_start ks lucks w).world q
 starts_here [] lucks w q (inl there) fine = absurd cc

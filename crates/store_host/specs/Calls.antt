@@ -11,7 +11,8 @@ use Rattle.row_store.specs.Spelling.{IsClient}
 use Rattle.step_tables.specs.Messages.{Luck, table_of}
 use Rattle.step_tables.specs.Messages as messages
 use Rattle.step_tables.specs.Store.{current_of}
-use Rattle.step_tables.specs.StoreMoves.{Take, StoreDisk, StoreTask, version_at}
+use Rattle.step_tables.specs.StoreMoves.{Take, Place, SidePut, StoreDisk, StoreTask, version_at}
+use Rattle.table_model.specs.declared.table_state.TableState.{TableState}
 use Rattle.step_tables.specs.Travels.{message_of}
 use Rattle.step_tables.specs.declared.message.Message.{Message}
 use Rattle.step_tables.specs.declared.message.Message.TheVariants as kinds
@@ -29,7 +30,7 @@ use Rattle.store_host.specs.declared.hosted.Hosted.{Hosted}
 use Rattle.store_host.specs.declared.hosted.TableOut.{TableOut}
 use Rattle.store_host.specs.declared.host.StoreHost.{StoreHost}
 use Rattle.store_host.specs.Holds.{HoldsTables, HoldsStore, outs_in, outs_of, said_by, SameFaults, RisenFaults}
-use Rattle.store_host.specs.Steps.{IsBusy, IsTakeFault}
+use Rattle.store_host.specs.Steps.{IsBusy, IsTakeFault, state_up}
 
 -- The tables are where these moves lead to from this world, and what the moves told and sent was put behind what was.
 -- One of the moves failed, or none.
@@ -124,8 +125,8 @@ pub record AreTaken {D : Type 0} (state : D → DiskState) (w : World) (from : N
       → AreMoved state w new [] [] false (table_falls (table_in message) w) × (after ≡ before)
 
 -- What the Stores make of a message for a table: the table's move, or nothing, where the table isn't there or the
--- content is no row of it. A refusal leaves all as it was. Where a disk has failed the owner is down with all its tables,
--- and no device has changed.
+-- content is no row of it. A refusal leaves all as it was. Where a disk has failed the owner is down with all its
+-- tables, and no device has changed.
 pub record Takes {D : Type 0} (state : D → DiskState) (w : World) (from : Node) (message : Message)
     (old new : StoreHost D) (result : Result (Unit {0}) NodeFault) : Type 0 where
   pub done : FitsIn w message
@@ -180,12 +181,44 @@ pub record AreGiven {D : Type 0} (state : D → DiskState) (w : World) (table : 
   pub stays : (IsErrOf result Disk → ⊥) → HoldsTables state w new
   pub fallen : IsErrOf result Disk → AreMoved state w new [] [] false (table_falls table w)
 
--- What is given of a row of a table: the row whole as it is now, with the names of its chunks and the last write of each
--- client on it, if anything was written to it. Nothing has changed; or a disk has failed, and the owner is down with all
--- its tables.
+-- What is given of a row of a table: the row whole as it is now, with the names of its chunks and the last write of
+-- each client on it, if anything was written to it. Nothing has changed; or a disk has failed, and the owner is down
+-- with all its tables.
 pub record GivesRow {D : Type 0} (state : D → DiskState) (w : World) (table : ℕ) (row : List ℕ)
     (old new : StoreHost D) (result : Result (Option WholeRow) NodeFault) : Type 0 where
   pub given : (hosted : world.Hosted) → hosted_at w table ≡ Some hosted
       → IfOk result (IsRowAt hosted.store.disk.items row (current_of hosted.store.disk.items row))
   pub stays : (IsErrOf result Disk → ⊥) → HoldsStore state w new
   pub fallen : IsErrOf result Disk → IsMoved state old new (store_falls (owner_of w table) w)
+
+-- ---- what is put beside the rows
+
+-- What the tables make of a put beside the rows of one of them.
+pub record ArePlaced {D : Type 0} (state : D → DiskState) (w : World) (table : ℕ) (put : SidePut)
+    (new : tree.BTreeMap ℕ (Hosted D)) (result : Result (Unit {0}) NodeFault) : Type 0 where
+  pub done : (outs : List TableOut)
+      → OnOk result (AreMoved state w new outs outs false (move_table table (Place put) w))
+  pub idle : (IsBusy result → ⊥) → (hosted : world.Hosted) → hosted_at w table ≡ Some hosted
+      → hosted.store.agenda ≡ Some []
+  pub busy : (version : ℕ) → IsErrOf result (Busy version) ↔ IsBusyWith w table version
+  pub not_spent : (last : ℕ) → IsErrOf result (Spent last) → ⊥
+  pub refused : (IsErrOf result Disk → ⊥) → OnErr result (HoldsTables state w new)
+  pub fallen : IsErrOf result Disk → AreMoved state w new [] [] false (table_falls table w)
+
+-- What the Stores make of a put beside the rows of a table: the table's move, or nothing, where the table isn't there.
+-- A refusal leaves all as it was. Where a disk has failed the owner is down with all its tables, and no device has
+-- changed.
+pub record PutsBeside {D : Type 0} (state : D → DiskState) (w : World) (table : ℕ) (put : SidePut)
+    (old new : StoreHost D) (result : Result (Unit {0}) NodeFault) : Type 0 where
+  pub done : OnOk result (IsMoved state old new (move_table table (Place put) w))
+  pub idle : (IsBusy result → ⊥) → (hosted : world.Hosted) → hosted_at w table ≡ Some hosted
+      → hosted.store.agenda ≡ Some []
+  pub busy : (version : ℕ) → IsErrOf result (Busy version) ↔ IsBusyWith w table version
+  pub not_spent : (last : ℕ) → IsErrOf result (Spent last) → ⊥
+  pub refused : (IsErrOf result Disk → ⊥) → OnErr result (HoldsStore state w new)
+  pub fallen : IsErrOf result Disk → IsMoved state old new (store_falls (owner_of w table) w)
+
+-- the state of a table that may be there, where it is up
+abbrev pub state_at : Option world.Hosted → Option TableState
+state_at None = None
+state_at (Some hosted) = state_up hosted.store

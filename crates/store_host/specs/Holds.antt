@@ -1,5 +1,5 @@
--- What the Stores with their tables hold of the world of the laws: of the Stores that are declared, of the tables, their
--- schemas and owners, and of the Stores that are down. Packets, clients and holds are whoever's.
+-- What the Stores with their tables hold of the world of the laws: of the Stores that are declared, of the tables,
+-- their schemas and owners, and of the Stores that are down. Packets, clients and holds are whoever's.
 use Rattle.std.specs.Prelude.{◌≡◌, ◌≢◌, ℕ, ◌≤◌, ◌<◌, Bool, true, false, not, ◌&&◌, ◌||◌, List, [], ◌∷◌, map}
 use Rattle.std.specs.Prelude.{length, filter, Option, Some, None, is_some}
 use Rattle.std.specs.FinSet as set
@@ -92,8 +92,8 @@ IsUpTable tables table = IsUpNode (tree.get nat_cmp tables table)
 
 -- ---- the Stores
 
--- It is the world's Store of this number: with the numbers of its tables, and whether a crash or a disk took it down, or
--- a table whose declaration failed does.
+-- It is the world's Store of this number: with the numbers of its tables, and whether a crash or a disk took it down,
+-- or a table whose declaration failed does.
 pub record IsStoreAt (w : World) (number : ℕ) (store : StoreState) : Type 0 where
   pub declared : has_store w number ≡ true
   pub tables : store.tables ≡ tables_of w number
@@ -254,7 +254,7 @@ pub record AreBlankDisks {D : Type 0} (state : D → DiskState) (chunk_disk row_
 abbrev pub LeavesNoRow : {D : Type 0} → (D → DiskState) → (D → ℕ → List ℕ → Type 0) → D → Hosted D → Type 0
 LeavesNoRow state images row_disk it =
     LeavesOnly state images row_disk (inner_of (disk_of (rows.vault_of it.node.devs.rows)))
-    (StandsForOne (λ list. HasNoRows it.node.schema (data_of list)))
+    (StandsForOne (λ list. HasNoRows it.node.schema it.node.state (data_of list)))
 
 -- ---- rows at every moment
 

@@ -1,6 +1,6 @@
 -- A table's step, what it tells put behind what was told, and the causes of its calls.
 use Rattle.std.specs.Prelude.{◌≡◌, ◌⊎◌, ◌↔◌, ℕ, ◌+◌, ◌<◌, ◌≤◌, ◌++◌, Bool, true, false, List, [], ◌∷◌, filter}
-use Rattle.std.specs.Prelude.{Option, Some, None, option_map, Result, OnOk, OnErr, IfOk, IfErr, IsErrOf}
+use Rattle.std.specs.Prelude.{Option, Some, option_map, Result, OnOk, OnErr, IfOk, IfErr, IsErrOf}
 use Rattle.disk_trait.specs.Calls.{DiskState}
 use Rattle.stab_base.specs.declared.limits.TheConstants.{NUMBER_MAX}
 use Rattle.stab_base.specs.declared.node.Node.{Node}
@@ -9,7 +9,9 @@ use Rattle.row_value.specs.declared.schema.Schema.{Schema}
 use Rattle.step_tables.specs.Messages.{Luck}
 use Rattle.step_tables.specs.Messages as messages
 use Rattle.step_tables.specs.Store.{current_of}
-use Rattle.step_tables.specs.StoreMoves.{StoreStep, StoreMove, Take, Crash, Start, store_step}
+use Rattle.step_tables.specs.StoreMoves.{StoreStep, StoreMove, StoreTask, SidePut, TableStore, Take, Place, Crash}
+use Rattle.step_tables.specs.StoreMoves.{Start, store_step}
+use Rattle.table_model.specs.declared.table_state.TableState.{TableState}
 use Rattle.step_tables.specs.Travels.{message_of}
 use Rattle.step_tables.specs.declared.message.Message.{Message}
 use Rattle.store_node.specs.declared.fault.NodeFault.{NodeFault}
@@ -21,7 +23,7 @@ use Rattle.store_node.specs.Calls.{IsTaken, IsAtWork, IsSpent, IsRowAt}
 use Rattle.store_node.specs.Node.{IsTable, told_by, sent_by, own_faults}
 use Rattle.store_node.specs.Reading.{shown_of}
 use Rattle.world_tables.specs.World.{Outbox, scheme_in, chunk_in, packets_from, declared_late}
-use Rattle.world_tables.specs.World.{agenda_of, crash_luck, first_luck, other_lucks}
+use Rattle.world_tables.specs.World.{crash_luck, first_luck, other_lucks}
 use Rattle.world_tables.specs.World as world
 use Rattle.store_host.specs.declared.hosted.Hosted.{Hosted}
 use Rattle.store_host.specs.declared.hosted.TableOut.{TableOut}
@@ -35,18 +37,10 @@ moved_at store schema table hosted move =
 -- what a start makes of it
 abbrev pub started_by : ℕ → Option Schema → ℕ → world.Hosted → Bool → StoreStep
 started_by store schema table hosted true = moved_at store schema table hosted Start
-started_by store schema table hosted false = declared_late store table
+started_by store schema table hosted false = declared_late store table hosted.store.disk.state
 
 abbrev pub started_at : ℕ → Option Schema → ℕ → world.Hosted → StoreStep
 started_at store schema table hosted = started_by store schema table hosted hosted.made
-
--- a table that was added just now
-abbrev pub new_table : Bool → world.Hosted
-new_table made = record {
-  store = record { disk = record { items = []; pending = None; left = [] }; agenda = agenda_of made };
-  history = [];
-  made = made;
-}
 
 -- how often three disks have failed
 abbrev pub faults_of : {D : Type 0} → (D → DiskState) → D → D → D → ℕ
@@ -147,3 +141,22 @@ pub record HasGiven {D : Type 0} (state : D → DiskState) (store : ℕ) (declar
   pub stays : (IsErrOf result Disk → ⊥) → IsHosted state store declared table hosted new
   pub fallen : IsErrOf result Disk → HasTold state store declared table hosted
       (moved_at store declared table hosted (Crash messages.FailedBefore)) new [] []
+
+-- ---- what is put beside the rows
+
+-- What a table makes of a put beside its rows: its step, which tells and sends nothing yet, or nothing, where it
+-- refuses it. Where a disk has failed it is down, with the disk as it was.
+pub record HasPlaced {D : Type 0} (state : D → DiskState) (store : ℕ) (declared : Option Schema) (table : ℕ)
+    (hosted : world.Hosted) (put : SidePut) (new : Hosted D) (result : Result (Unit {0}) NodeFault) : Type 0 where
+  pub placed : (outs : List TableOut) → OnOk result (HasTold state store declared table hosted
+      (moved_at store declared table hosted (Place put)) new outs outs)
+  pub idle : (IsBusy result → ⊥) → hosted.store.agenda ≡ Some []
+  pub busy : (version : ℕ) → IsErrOf result (Busy version) ↔ IsAtWork hosted.store.disk hosted.store.agenda version
+  pub not_spent : (last : ℕ) → IsErrOf result (Spent last) → ⊥
+  pub refused : (IsErrOf result Disk → ⊥) → OnErr result (IsHosted state store declared table hosted new)
+  pub fallen : IsErrOf result Disk → HasTold state store declared table hosted
+      (moved_at store declared table hosted (Crash messages.FailedBefore)) new [] []
+
+-- the state of a table that is up
+abbrev pub state_up : TableStore → Option TableState
+state_up s = option_map (λ (agenda : List StoreTask). s.disk.state) s.agenda

@@ -14,24 +14,28 @@ ghost use Rattle.value_codec.specs.SchemaSpelling.{HasSchemaSpelling};
 ghost use Rattle.step_tables.specs.Messages as messages;
 ghost use Rattle.step_tables.specs.Messages.{Luck};
 ghost use Rattle.store_node.specs.declared.fault.NodeFault.TheVariants.{Disk as DiskFailed, Memory};
-ghost use Rattle.world_tables.specs.World.{World as AWorld, Hosted as AHosted, is_down, hosted_at, schema_at, has_store};
+ghost use Rattle.world_tables.specs.World.{World as AWorld, Hosted as AHosted, is_down, hosted_at, schema_at};
+ghost use Rattle.world_tables.specs.World.{has_store};
 ghost use Rattle.world_tables.specs.World.{owner_by, owner_of, tables_of, tasks_of, is_at_work, chunk_in, names_on};
 ghost use Rattle.world_tables.specs.World.{busy_table, busy_step, write_next, store_until_idle, store_falls};
 ghost use Rattle.world_tables.specs.World.{store_crashes, and_then, still, without_down, with_table, with_store};
+ghost use Rattle.world_tables.specs.World.{new_hosted};
+ghost use Rattle.table_model.specs.declared.table_state.TableState.{TableState as AState};
 ghost use Rattle.store_host.specs.Holds.{IsHosted, HoldsParts, HoldsStore, IsStore, SameFaults, LaterFaults, AreLeft};
 ghost use Rattle.store_host.specs.Holds.{AreStill, AreBlankDisks, LeavesNoRow, faults_at, disks_at, owner_at};
 ghost use Rattle.store_host.specs.Holds.{is_up_at, is_up_for, is_up_there};
 ghost use Rattle.store_host.specs.Joining.{risen};
-ghost use Rattle.store_host.specs.Steps.{new_table, faults_of};
+ghost use Rattle.store_host.specs.Steps.{faults_of};
 ghost use Rattle.store_host.specs.Calls.{AreMoved, IsMoved, HasCause, HasLuck, Takes, HasTakeCause, ShowsRow, GivesRow};
-ghost use Rattle.store_host.specs.Calls.{restart_moves, table_in, busy_version};
+ghost use Rattle.store_host.specs.Calls.{PutsBeside, restart_moves, table_in, busy_version, state_at};
+ghost use Rattle.step_tables.specs.StoreMoves.{PutState};
 
 use crate::hosted::{Hosted, TableOut};
 use crate::joining::{any_down, owner_in, renew_all, renew_at, settle_all};
 use crate::store::StoreState;
 use crate::tables::{
-    any_unmade, busy_version_at, crash_busy, deliver_to, first_busy, halt_all, is_busy_at, restart,
-    row_at, show_at, work_at,
+    any_unmade, busy_version_at, crash_busy, deliver_to, first_busy, halt_all, is_busy_at,
+    place_at, restart, row_at, show_at, work_at,
 };
 use disk_trait::Disk;
 use ring_map::Ring;
@@ -41,7 +45,7 @@ use std::alloc::Global;
 use std::collections::BTreeMap;
 use step_tables::Message;
 use store_node::{NodeFault, ShownRow, WholeRow, table_of};
-use table_model::History;
+use table_model::{History, TableState};
 
 /// The Stores with their tables, each table on its three disks and kept by its owner on the ring. A Store is up or down
 /// with all its tables.
@@ -69,8 +73,8 @@ impl<D: Disk + Drop> StoreHost<D> {
         }
     }
 
-    /// Declares a Store: a table whose owner it becomes is its own from now on. It is up, unless another Store was taken
-    /// down: then it is down too.
+    /// Declares a Store: a table whose owner it becomes is its own from now on. It is up, unless another Store was
+    /// taken down: then it is down too.
     pub fn declare_store(&mut self, number: StoreNo) -> Result<(), NodeFault>
         requires held { IsStore D.state self.old }
         ensures declared { (w : AWorld) → HoldsStore D.state w self.old
@@ -173,9 +177,9 @@ impl<D: Disk + Drop> StoreHost<D> {
     // Adds a table that isn't there, to its owner's too.
     fn put(&mut self, table: TableNo, hosted: Hosted<D>) -> Result<(), NodeFault>
         requires { tree.get nat_cmp self.old.tables table ≡ None }
-        ensures put { (w : AWorld) (schema : ASchema) (made : Bool) → HoldsStore D.state w self.old
-            → IsHosted D.state (owner_by w.stores (Some schema)) (Some schema) table (new_table made) hosted
-            → OnOk result (HoldsStore D.state (with_table w table schema made) self.new) }
+        ensures put { (w : AWorld) (schema : ASchema) (stage : AState) (made : Bool) → HoldsStore D.state w self.old
+            → IsHosted D.state (owner_by w.stores (Some schema)) (Some schema) table (new_hosted stage made) hosted
+            → OnOk result (HoldsStore D.state (with_table w table schema stage made) self.new) }
         ensures outs { self.new.outs ≡ self.old.outs }
         ensures tables { OnOk result ((q : ℕ) → tree.get nat_cmp self.new.tables q
             ≡ (if is_at (nat_cmp table) q then Some hosted else tree.get nat_cmp self.old.tables q)) }
@@ -186,7 +190,8 @@ impl<D: Disk + Drop> StoreHost<D> {
         renew_at(self.alloc, &mut self.stores, store, &self.tables)
     }
 
-    /// Adds a table on its disks for chunks, rows and log, whatever they hold, and makes it one with no rows. It is up.
+    /// Adds a table in this state on its disks for chunks, rows and log, whatever they hold, and makes it one with no
+    /// rows. It is up.
     ///
     /// `Disk` where a disk failed: the table is there, its owner is down, and the next start of that Store makes the
     /// table.
@@ -194,6 +199,7 @@ impl<D: Disk + Drop> StoreHost<D> {
         &mut self,
         table: TableNo,
         schema: Schema,
+        state: TableState,
         chunk_disk: D,
         row_disk: D,
         log_disk: D,
@@ -204,9 +210,9 @@ impl<D: Disk + Drop> StoreHost<D> {
         requires spelled { HasSchemaSpelling schema }
         requires short { length (table_payload schema 2) ≤ payload_most }
         ensures added { (w : AWorld) → HoldsStore D.state w self.old
-            → OnOk result (HoldsStore D.state (with_table w table schema true) self.new) }
+            → OnOk result (HoldsStore D.state (with_table w table schema state true) self.new) }
         ensures failed { (w : AWorld) → HoldsStore D.state w self.old → IsErrOf result DiskFailed
-            → HoldsStore D.state (with_table w table schema false) self.new }
+            → HoldsStore D.state (with_table w table schema state false) self.new }
         ensures outs { self.new.outs ≡ self.old.outs }
         ensures counted { OnOk result (faults_at D.state self.new.tables table
             ≡ faults_of D.state chunk_disk row_disk log_disk) }
@@ -227,7 +233,7 @@ impl<D: Disk + Drop> StoreHost<D> {
     {
         let store = owner_in(&self.ring, schema.name.as_slice());
         let mut hosted = Hosted::new(
-            self.alloc, store, table, schema, chunk_disk, row_disk, log_disk,
+            self.alloc, store, table, schema, state, chunk_disk, row_disk, log_disk,
         );
         match hosted.declare() {
             Ok(()) => self.put(table, hosted),
@@ -335,8 +341,8 @@ impl<D: Disk + Drop> StoreHost<D> {
         Err(NodeFault::Memory)
     }
 
-    /// Takes a message for the owner of its table; one for a table that isn't there is lost, and so is one whose content
-    /// is no row of the table.
+    /// Takes a message for the owner of its table; one for a table that isn't there is lost, and so is one whose
+    /// content is no row of the table.
     ///
     /// `Busy` where the table has writes to do, with the version at work, and `Spent` where a new write finds no
     /// version left. `Disk` where a disk failed: the owner is then down, with all its tables. Any other fault leaves
@@ -362,6 +368,43 @@ impl<D: Disk + Drop> StoreHost<D> {
                 Err(NodeFault::Disk)
             }
             Err(fault) => Err(fault),
+        }
+    }
+
+    /// Begins to put a table into this state, in one write; one that isn't there is passed over.
+    ///
+    /// `Busy` where the table has writes to do, with the version at work. `Disk` where a disk failed: the owner is then
+    /// down, with all its tables. Any other fault leaves all as it was.
+    pub fn place_state(&mut self, table: TableNo, state: TableState) -> Result<(), NodeFault>
+        requires held { IsStore D.state self.old }
+        requires up { is_up_for self.old table ≡ true }
+        ensures puts { (w : AWorld) → HoldsStore D.state w self.old
+            → PutsBeside D.state w table (PutState state) self.old self.new result }
+        ensures outs { self.new.outs ≡ self.old.outs }
+        ensures up { (IsErrOf result DiskFailed → ⊥) → self.new.stores ≡ self.old.stores }
+        ensures down { IsErrOf result DiskFailed → is_up_at self.new (owner_at self.old.tables table) ≡ false }
+        ensures cause { HasTakeCause D.state self.old.tables self.new.tables result }
+        ensures left { (w : AWorld) → HoldsStore D.state w self.old
+            → AreLeft D.state D.images w self.old.tables self.new.tables }
+    {
+        let store = self.owner(table);
+        match place_at(&mut self.tables, table, state) {
+            Ok(()) => Ok(()),
+            Err(NodeFault::Disk) => {
+                self.fall(store);
+                Err(NodeFault::Disk)
+            }
+            Err(fault) => Err(fault),
+        }
+    }
+
+    /// The state of a table; none where it isn't there, or is down.
+    pub fn table_state(&self, table: TableNo) -> Option<TableState>
+        ensures { (w : AWorld) → HoldsStore D.state w self.now → result ≡ state_at (hosted_at w table) }
+    {
+        match self.tables.get(&table) {
+            Some(hosted) => hosted.state(),
+            None => None,
         }
     }
 

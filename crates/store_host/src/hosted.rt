@@ -8,7 +8,7 @@ ghost use Rattle.row_store.specs.Spelling.{table_payload};
 ghost use Rattle.row_value.specs.declared.schema.Schema.{Schema as ASchema};
 ghost use Rattle.step_tables.specs.Sayings.{saying};
 ghost use Rattle.std.specs.Vec.{vec_capacity, vec_len};
-ghost use Rattle.step_tables.specs.StoreMoves.{StoreStep, TableStore, Work, Crash};
+ghost use Rattle.step_tables.specs.StoreMoves.{StoreStep, TableStore, Work, Crash, PutState};
 ghost use Rattle.step_tables.specs.Messages as messages;
 ghost use Rattle.store_node.specs.declared.fault.NodeFault.TheVariants.{Disk as DiskFailed, Memory};
 ghost use Rattle.store_node.specs.Due.{fact_of};
@@ -18,11 +18,13 @@ ghost use Rattle.row_store.specs.Standing as rows;
 ghost use Rattle.store_commit.specs.Standing.{RowsLeave};
 ghost use Rattle.store_node.specs.Node.{IsNode, IsTable, has_task, own_faults, behind_next, LeavesRows};
 ghost use Rattle.store_node.specs.Node.{HasBlankDisks, HasNoRows};
-ghost use Rattle.world_tables.specs.World.{goes_on, history_on, next_step, tasks_in};
+ghost use Rattle.table_model.specs.declared.table_state.TableState.{TableState as AState};
+ghost use Rattle.world_tables.specs.World.{goes_on, history_on, next_step, tasks_in, new_hosted};
 ghost use Rattle.world_tables.specs.World as world;
 ghost use Rattle.store_host.specs.Holds.{IsHosted, outs_in, outbox_of, says_something, disks_at, AreBlankDisks};
-ghost use Rattle.store_host.specs.Steps.{IsTelling, HasTold, moved_at, started_at, new_table, faults_of, HasNodeCause};
-ghost use Rattle.store_host.specs.Steps.{HasCrashed, HasTaken, HasNodeTakeCause, HasShown, HasGiven};
+ghost use Rattle.store_host.specs.Steps.{IsTelling, HasTold, moved_at, started_at, faults_of, HasNodeCause};
+ghost use Rattle.store_host.specs.Steps.{HasCrashed, HasTaken, HasNodeTakeCause, HasPlaced, HasShown, HasGiven};
+ghost use Rattle.store_host.specs.Steps.{state_up};
 
 use disk_trait::Disk;
 use row_value::Schema;
@@ -31,7 +33,7 @@ use std::alloc::Global;
 use std::mem;
 use step_tables::Message;
 use store_node::{NodeFault, ShownRow, StoreFact, StoreOut, TableNode, WholeRow};
-use table_model::History;
+use table_model::{History, TableState};
 
 /// What a table told and sent, with the Store that keeps it.
 #[derive(Debug, Drop)]
@@ -104,12 +106,13 @@ fn put_at_once(outs: &mut Vec<TableOut>, out: TableOut)
 }
 
 impl<D: Disk + Drop> Hosted<D> {
-    /// A table that isn't declared yet, and has told nothing.
+    /// A table that isn't declared yet, is to be in this state, and has told nothing.
     pub(crate) fn new(
         alloc: Global,
         store: StoreNo,
         table: TableNo,
         schema: Schema,
+        state: TableState,
         chunk_disk: D,
         row_disk: D,
         log_disk: D,
@@ -117,33 +120,37 @@ impl<D: Disk + Drop> Hosted<D> {
         requires size { 0 < schema.chunk }
         requires spelled { HasSchemaSpelling schema }
         requires short { length (table_payload schema 2) ≤ payload_most }
-        ensures hosted { IsHosted D.state store (Some schema) table (new_table false) result }
+        ensures hosted { IsHosted D.state store (Some schema) table (new_hosted state false) result }
         ensures declared { result.node.is_declared ≡ false }
         ensures faults { own_faults D.state result.node ≡ faults_of D.state chunk_disk row_disk log_disk }
         ensures blank { AreBlankDisks D.state chunk_disk row_disk log_disk → HasBlankDisks D.state result.node }
         ensures rows { inner_of (disk_of (rows.vault_of result.node.devs.rows)) ≡ row_disk }
     {
         Hosted {
-            node: TableNode::new(alloc, store, table, schema, chunk_disk, row_disk, log_disk),
+            node: TableNode::new(
+                alloc, store, table, schema, state, chunk_disk, row_disk, log_disk,
+            ),
             history: Sequence::new(alloc),
         }
     }
 
-    /// Makes the table one with no rows, which is up.
+    /// Makes the table one with no rows, in its first state, which is up.
     pub(crate) fn declare(&mut self) -> Result<(), NodeFault>
         requires node { IsNode D.state self.old.node }
         requires undeclared { self.old.node.is_declared ≡ false }
-        ensures declared { (store : ℕ) (declared : Option ASchema) (table : ℕ)
-            → IsHosted D.state store declared table (new_table false) self.old
-            → OnOk result (IsHosted D.state store declared table (new_table true) self.new) }
-        ensures refused { (store : ℕ) (declared : Option ASchema) (table : ℕ)
-            → IsHosted D.state store declared table (new_table false) self.old
-            → OnErr result (IsHosted D.state store declared table (new_table false) self.new) }
+        ensures declared { (store : ℕ) (declared : Option ASchema) (table : ℕ) (stage : AState)
+            → IsHosted D.state store declared table (new_hosted stage false) self.old
+            → OnOk result (IsHosted D.state store declared table (new_hosted stage true) self.new) }
+        ensures refused { (store : ℕ) (declared : Option ASchema) (table : ℕ) (stage : AState)
+            → IsHosted D.state store declared table (new_hosted stage false) self.old
+            → OnErr result (IsHosted D.state store declared table (new_hosted stage false) self.new) }
         ensures cause { HasNodeCause D.state self.old.node self.new.node result }
         // On blank disks a crash leaves no rows.
         ensures blank { HasBlankDisks D.state self.old.node → OnOk result (RowsLeave (behind D.state)
-            (λ f. D.images (inner_of f)) self.old.node.devs self.new.node.devs (HasNoRows self.old.node.schema)) }
+            (λ f. D.images (inner_of f)) self.old.node.devs self.new.node.devs
+            (HasNoRows self.old.node.schema self.old.node.state)) }
         ensures schema { OnOk result (self.new.node.schema ≡ self.old.node.schema) }
+        ensures state { self.new.node.state ≡ self.old.node.state }
     {
         self.node.declare()
     }
@@ -171,7 +178,8 @@ impl<D: Disk + Drop> Hosted<D> {
             self.new outs.old outs.new × (step ≡ next_step (tasks_in hosted.store.agenda))) }
         ensures failed { (store : ℕ) (schema : Option ASchema) (table : ℕ) (hosted : world.Hosted)
             → IsHosted D.state store schema table hosted self.old → IsErrOf result DiskFailed
-            → HasTold D.state store schema table hosted (moved_at store schema table hosted (Work messages.FailedBefore))
+            → HasTold D.state store schema table hosted
+            (moved_at store schema table hosted (Work messages.FailedBefore))
             self.new outs.old outs.new
             ⊎ HasTold D.state store schema table hosted (moved_at store schema table hosted (Work messages.FailedAfter))
             self.new outs.old outs.new }
@@ -214,7 +222,8 @@ impl<D: Disk + Drop> Hosted<D> {
         requires { IsNode D.state self.old.node }
         ensures halted { (store : ℕ) (schema : Option ASchema) (table : ℕ) (hosted : world.Hosted)
             → IsHosted D.state store schema table hosted self.old
-            → HasTold D.state store schema table hosted (moved_at store schema table hosted (Crash messages.FailedBefore))
+            → HasTold D.state store schema table hosted
+            (moved_at store schema table hosted (Crash messages.FailedBefore))
             self.new [] [] }
         ensures counted { own_faults D.state self.new.node ≡ own_faults D.state self.old.node }
         ensures left { (store : ℕ) (schema : Option ASchema) (table : ℕ) (hosted : world.Hosted)
@@ -257,7 +266,8 @@ impl<D: Disk + Drop> Hosted<D> {
         requires idle { (s : TableStore) → IsTable D.state self.old.node s → has_task s.agenda ≡ false }
         ensures taken { (store : ℕ) (schema : Option ASchema) (table : ℕ) (hosted : world.Hosted)
             → IsHosted D.state store schema table hosted self.old
-            → HasTaken D.state store schema table hosted from message.now self.old self.new outs.old.items outs.new.items
+            → HasTaken D.state store schema table hosted from message.now self.old self.new outs.old.items
+            outs.new.items
             result }
         ensures cause { HasNodeTakeCause D.state self.old.node self.new.node result }
         ensures left { (store : ℕ) (schema : Option ASchema) (table : ℕ) (hosted : world.Hosted)
@@ -298,6 +308,32 @@ impl<D: Disk + Drop> Hosted<D> {
         let answer = self.take(&mut room, from, message);
         *outs = Sequence::from_vec(room);
         answer
+    }
+
+    /// Begins to put the table into this state. A refusal leaves all as it was, but where a disk has failed the table
+    /// is down.
+    pub(crate) fn place_state(&mut self, state: TableState) -> Result<(), NodeFault>
+        requires node { IsNode D.state self.old.node }
+        requires up { self.old.node.is_up ≡ true }
+        ensures placed { (store : ℕ) (schema : Option ASchema) (table : ℕ) (hosted : world.Hosted)
+            → IsHosted D.state store schema table hosted self.old
+            → HasPlaced D.state store schema table hosted (PutState state) self.new result }
+        ensures cause { HasNodeTakeCause D.state self.old.node self.new.node result }
+        ensures left { (store : ℕ) (schema : Option ASchema) (table : ℕ) (hosted : world.Hosted)
+            → IsHosted D.state store schema table hosted self.old → hosted.made ≡ true
+            → LeavesRows D.state D.images self.old.node self.new.node hosted.store.disk hosted.store.disk }
+    {
+        self.node.place_state(state)
+    }
+
+    /// The state of the table, where it is up.
+    pub(crate) fn state(&self) -> Option<TableState>
+        ensures { (s : TableStore) → IsTable D.state self.now.node s → result ≡ state_up s }
+    {
+        if self.node.is_up() {
+            return Some(self.node.state());
+        }
+        None
     }
 
     /// A row with its last version, or none where nothing was written to it.

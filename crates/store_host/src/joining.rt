@@ -78,7 +78,8 @@ pub(crate) fn renew_at<D: Disk + Drop>(
     tables: &BTreeMap<TableNo, Hosted<D>>,
 ) -> Result<(), NodeFault>
     ensures renewed { OnOk result ((q : ℕ) → tree.get nat_cmp stores.new q ≡ (if is_at (nat_cmp store) q
-        then option_map (renewed store tables.now) (tree.get nat_cmp stores.old q) else tree.get nat_cmp stores.old q)) }
+        then option_map (renewed store tables.now) (tree.get nat_cmp stores.old q)
+        else tree.get nat_cmp stores.old q)) }
     ensures memory { IfErr result (λ e. e ≡ Memory) }
 {
     match stores.get_mut(&store) {

@@ -4,7 +4,7 @@ ghost use Rattle.std.specs.Prelude.{IsSome, [], ◌∷◌, ◌++◌, if◌then�
 ghost use Rattle.std.specs.BTreeMap as tree;
 ghost use Rattle.std.specs.Ordering.{nat_cmp};
 ghost use Rattle.std.specs.List.{find};
-ghost use Rattle.step_tables.specs.StoreMoves.{TableStore, Work};
+ghost use Rattle.step_tables.specs.StoreMoves.{TableStore, Work, PutState};
 ghost use Rattle.step_tables.specs.Messages as messages;
 ghost use Rattle.step_tables.specs.Messages.{Luck};
 ghost use Rattle.store_node.specs.declared.fault.NodeFault.TheVariants.{Disk as DiskFailed, Memory};
@@ -13,7 +13,7 @@ ghost use Rattle.world_tables.specs.World.{World as AWorld, is_at_work, busy_ste
 ghost use Rattle.world_tables.specs.World.{table_falls, tables_fall, table_starts, tables_start};
 ghost use Rattle.store_host.specs.Holds.{HoldsTables, AreTables, IsUpTable, SameFaults, AreLeft, AreStill};
 ghost use Rattle.store_host.specs.Calls.{AreMoved, HasCause, AreCrashed, AreTaken, HasTakeCause, AreShown, table_in};
-ghost use Rattle.store_host.specs.Calls.{AreGiven, restart_moves, version_by, busy_version};
+ghost use Rattle.store_host.specs.Calls.{AreGiven, ArePlaced, restart_moves, version_by, busy_version};
 ghost use Rattle.store_host.specs.Joining.{any_unmade, kept_by, unmade_in};
 
 use crate::hosted::{Hosted, TableOut};
@@ -23,7 +23,7 @@ use std::alloc::Global;
 use std::collections::BTreeMap;
 use step_tables::Message;
 use store_node::{NodeFault, ShownRow, TableNode, WholeRow, table_of};
-use table_model::Tables;
+use table_model::{TableState, Tables};
 
 /// Whether a table has writes to do.
 pub(crate) fn is_busy_at<D: Disk + Drop>(
@@ -256,6 +256,27 @@ pub(crate) fn deliver_to<D: Disk + Drop>(
     let table = table_of(message);
     match tables.get_mut(&table) {
         Some(hosted) => hosted.deliver(alloc, outs, from, message),
+        None => Ok(()),
+    }
+}
+
+/// Begins to put one of these tables into this state; one that isn't there is passed over.
+pub(crate) fn place_at<D: Disk + Drop>(
+    tables: &mut BTreeMap<TableNo, Hosted<D>>,
+    table: TableNo,
+    state: TableState,
+) -> Result<(), NodeFault>
+    requires held { AreTables D.state tables.old }
+    requires up { IsUpTable tables.old table }
+    ensures placed { (w : AWorld) → HoldsTables D.state w tables.old
+        → ArePlaced D.state w table (PutState state) tables.new result }
+    ensures there { IsErrOf result DiskFailed → IsSome (tree.get nat_cmp tables.old table) }
+    ensures cause { HasTakeCause D.state tables.old tables.new result }
+    ensures left { (w : AWorld) → HoldsTables D.state w tables.old
+        → AreStill D.state D.images w tables.old tables.new }
+{
+    match tables.get_mut(&table) {
+        Some(hosted) => hosted.place_state(state),
         None => Ok(()),
     }
 }

@@ -25,13 +25,15 @@ use Rattle.step_tables.specs.Chunks.{is_spelled}
 use Rattle.step_tables.specs.Facts as facts_of
 use Rattle.step_tables.specs.Store.{current_of, next_changed}
 use Rattle.step_tables.specs.StoreMoves.{StoreDisk, StoreStep, StoreTask, TableStore, asked, decided, quiet, answered, responded, pulled_for, item_for, yours_in, version_of, keeps_there}
-use Rattle.step_tables.specs.StoreMoves.{torn_answered, torn_pulled_for}
+use Rattle.step_tables.specs.StoreMoves.{torn_answered, torn_pulled_for, SidePut, PutState}
 use Rattle.step_tables.specs.Travels.{outcome_of, pulled_of, torn_of, torn_pulled_of, send_of}
 use Rattle.store_commit.specs.declared.devs.TableDevs.{TableDevs}
 use Rattle.store_commit.specs.declared.fault.CommitFault.{CommitFault}
 use Rattle.store_commit.specs.declared.fault.CommitFault.TheVariants as commits
 use Rattle.store_commit.specs.Standing.{devs, writes_of, IsReady}
-use Rattle.device_laws.specs.Stands.{Stands}
+use Rattle.table_model.specs.declared.table_state.TableState.{TableState}
+use Rattle.device_laws.specs.Stands.{Stands, state_number}
+use Rattle.store_commit.specs.Devs.{PutTable}
 use Rattle.table_model.specs.declared.entry.Entry.{Entry}
 use Rattle.store_node.specs.declared.gathered.Gathered.{Gathered}
 use Rattle.store_node.specs.declared.told.StoreFact.{StoreFact}
@@ -45,12 +47,12 @@ use Rattle.store_node.specs.Fault.{fault_of}
 use Rattle.store_node.specs.Gathered.{HasRoom}
 use Rattle.store_node.specs.Messages.{entry_of}
 use Rattle.store_node.specs.Node.{IsTable, sent_by}
-use Rattle.store_node.specs.Calls.{Fell, Answers, Delivers, IsTaken, IsSpentOn}
+use Rattle.store_node.specs.Calls.{Fell, Answers, Delivers, Places, IsTaken, IsSpentOn, put_step}
 use Rattle.store_node.specs.Taking.{Serves, IsPulled, IsTornPulled, IsTaking, refusal_of, refused_by, step_for}
 use Rattle.store_node.specs.Update.{request_of, pull_of}
 use Rattle.store_node.proofs.Following.{follows_now}
-use Rattle.store_node.proofs.Delivering.{idle_state, drops, passes, answers, stays_put, answers_as}
-use Rattle.store_node.proofs.Serving.{decided_is, kept_there, at_idle, sends_one, takes_on, fails, short_of}
+use Rattle.store_node.proofs.Delivering.{idle_state, drops, passes, answers, stays_put, answers_as, places}
+use Rattle.store_node.proofs.Serving.{decided_is, kept_there, at_idle, sends_one, takes_on, places_on, fails, short_of}
 use Rattle.store_node.proofs.Telling.{pulled_is, torn_is}
 
 pub pushed : {T : Type 0} (new mid old : List T) (x : T) → new ≡ mid ++ x ∷ [] → mid ≡ old → new ≡ old ++ x ∷ []
@@ -164,6 +166,10 @@ module _ {D : Type 0} (state : D → DiskState) (images : D → ℕ → List ℕ
         (passes state images only_now old s.disk s.agenda (idle_state state images only_now old s.disk s.agenda t up none) t from
         (kinds.TornRowResponse response) (λ d. refl) (λ x. x))
 
+    pub placed_at : (put : SidePut) (new : TableNode D) (r : Result (Unit {0}) NodeFault) → ((s : TableStore) → IsTable state old s → Answers state images s (put_step old.table s.disk put) ⊥ old new r)
+        → (s : TableStore) → IsTable state old s → Places state images s put old new r
+    placed_at put new r a s t = places state images only_now old new s.disk s.agenda (idle_state state images only_now old s.disk s.agenda t up none) put r (a s t)
+
     -- ---- want of memory before the devices were asked
 
     pub shortly : (step : StoreDisk → StoreStep) (is_spent : StoreDisk → Type 0) (facts : Gathered StoreFact) (messages : Gathered (Option Node × Message)) → facts.items.items ≡ old.facts.items.items → messages.items.items ≡ old.messages.items.items
@@ -182,6 +188,15 @@ module _ {D : Type 0} (state : D → DiskState) (images : D → ℕ → List ℕ
       refusedly step is_spent new {T} e spent k told sent fell stays s t =
           idly (λ x. Answers state images x (step x.disk) (is_spent x.disk) old new (Err (fault_of e))) s t
           (λ disk u. fails state images only_now old disk u (step disk) (is_spent disk) table facts messages new {T = T} e (spent disk (stands_at disk u)) k told sent fell stays)
+
+      -- ---- the put of the table's state
+
+      pub puts_state : (stage : TableState) (number : ℕ) → number ≡ state_number stage → {T : Type 0} (x : T) → Serves st im old.devs table (Ok x) → writes_of table ≡ PutTable old.schema number ∷ []
+          → facts.items.items ≡ old.facts.items.items → HasRoom facts 1
+          → (s : TableStore) → IsTable state old s → Answers state images s (put_step old.table s.disk (PutState stage)) ⊥ old (record old { devs = table; facts = facts; owed = owed.Place stage }) (Ok tt)
+      puts_state stage number is x k taken told room s t =
+          idly (λ y. Answers state images y (put_step old.table y.disk (PutState stage)) ⊥ old (record old { devs = table; facts = facts; owed = owed.Place stage }) (Ok tt)) s t
+          (λ disk u. places_on state images only_now old disk u table facts stage number is x k taken told room)
 
       -- ---- a pull
 

@@ -12,10 +12,11 @@ use Rattle.store_commit.specs.declared.fault.CommitFault.{CommitFault}
 use Rattle.store_commit.specs.NamedChunks.{NamedChunks}
 use Rattle.store_commit.specs.There.{WholeRows}
 use Rattle.store_commit.specs.Standing.{devs, writes_of, AreUp, AreSound, AreSynced}
+use Rattle.table_model.specs.declared.table_state.TableState.{TableState}
 use Rattle.step_tables.specs.Facts.{Fact}
 use Rattle.step_tables.specs.Facts as facts_of
-use Rattle.step_tables.specs.StoreMoves.{StoreDisk, StoreTask, TableStore}
-use Rattle.store_node.specs.Devices.{BeginsStart}
+use Rattle.step_tables.specs.StoreMoves.{StoreDisk, StoreTask, TableStore, new_disk}
+use Rattle.store_node.specs.Devices.{BeginsStart, state_in}
 use Rattle.store_node.specs.Due.{fact_of, facts_found}
 use Rattle.store_node.specs.Fault.{fault_of}
 use Rattle.store_node.specs.Gathered.{HasRoom}
@@ -26,7 +27,7 @@ use Rattle.store_node.specs.declared.owed.Owed.TheVariants as owed
 use Rattle.store_node.specs.declared.fault.NodeFault.{NodeFault}
 use Rattle.store_node.specs.declared.fault.NodeFault.TheVariants as node_faults
 use Rattle.store_node.specs.declared.node.TableNode.{TableNode}
-use Rattle.store_node.specs.Node.{IsTable, HoldsNone, LeavesNone, told_by, sent_by, nothing_stored}
+use Rattle.store_node.specs.Node.{IsTable, HoldsNone, LeavesNone, told_by, sent_by}
 use Rattle.store_node.specs.Calls.{Falls, Stays, Makes, DeclaresLate, Recovers, Starts}
 use Rattle.store_node.proofs.Blanks.{together, still_some, blank_holds}
 use Rattle.store_node.proofs.Recovering.{recovered_at, unrecovered_at, none_at}
@@ -89,10 +90,10 @@ module _ {D : Type 0} (state : D → DiskState) (images : D → ℕ → List ℕ
   recover_short only_now node facts disk (Some tasks) same t declared down = let up = t.at.0 in absurd cc
 
   pub recover_done : (old : TableNode D) (reserved facts : Gathered StoreFact) (disk : StoreDisk) (agenda : Option (List StoreTask)) → IsTable state old (at disk agenda) → old.is_declared ≡ true → old.is_up ≡ false
-      → (table : TableDevs (FuseDisk D)) (recovery : Recovery) → BeginsStart st im old.devs table (Ok recovery) → HasRoom facts 1 → map fact_of facts.items.items ≡ told_by old ++ facts_found old.table recovery
-      → Recovers state images (at disk agenda) old (record old { is_up = true; devs = table; owed = owed.Start old.store; facts = facts }) (Ok tt)
-  recover_done old reserved facts disk None t declared down table recovery k room told = recovered_at state images old disk t declared table recovery k facts room told
-  recover_done old reserved facts disk (Some tasks) t declared down table recovery k room told = let up = t.at.0 in absurd cc
+      → (table : TableDevs (FuseDisk D)) (recovery : Recovery) (stage : TableState) → stage ≡ state_in (devs st old.devs).held.table → BeginsStart st im old.devs table (Ok recovery) → HasRoom facts 1 → map fact_of facts.items.items ≡ told_by old ++ facts_found old.table recovery
+      → Recovers state images (at disk agenda) old (record old { is_up = true; devs = table; owed = owed.Start old.store; facts = facts; state = stage }) (Ok tt)
+  recover_done old reserved facts disk None t declared down table recovery stage stage_is k room told = recovered_at state images old disk t declared table recovery k stage stage_is facts room told
+  recover_done old reserved facts disk (Some tasks) t declared down table recovery stage stage_is k room told = let up = t.at.0 in absurd cc
 
   pub recover_failed : (old : TableNode D) (disk : StoreDisk) (agenda : Option (List StoreTask)) → IsTable state old (at disk agenda) → old.is_declared ≡ true → old.is_up ≡ false → (mid new : TableNode D) (e : CommitFault)
       → BeginsStart st im old.devs mid.devs (Err e) → Falls state images mid new → IsKept old new → new.is_up ≡ false → Recovers state images (at disk agenda) old new (Err (fault_of e))
@@ -112,11 +113,11 @@ module _ {D : Type 0} (state : D → DiskState) (images : D → ℕ → List ℕ
     only = inr refl;
     none = none_left;
     left = λ k. record { held = k.held; sound = k.sound; synced = k.synced };
-    blank = λ blank. none_left (blank_holds st im only_now node.schema node.devs blank);
+    blank = λ blank. none_left (blank_holds st im only_now node.schema node.state node.devs blank);
   }
     where
       none_left : HoldsNone state node → LeavesNone state images node (record node { facts = facts })
-      none_left k = none_at state images node (record node { facts = facts }) (together st im only_now node.schema node.devs node.devs (still_some st im only_now node.schema node.devs t.at.1.up k))
+      none_left k = none_at state images node (record node { facts = facts }) (together st im only_now node.schema node.state node.devs node.devs (still_some st im only_now node.schema node.state node.devs t.at.1.up k))
   late_short only_now node facts disk (Some tasks) same t isnt = let is = t.at.1.declared in absurd cc
 
   pub late_node : (node : TableNode D) (facts : Gathered StoreFact) (disk : StoreDisk) (agenda : Option (List StoreTask)) → IsTable state node (at disk agenda) → node.is_declared ≡ false → IsTable state (record node { facts = facts }) (at disk agenda)
@@ -142,6 +143,8 @@ module _ {D : Type 0} (state : D → DiskState) (images : D → ℕ → List ℕ
             follows = h.follows;
             well = h.well;
             owed = h.owed;
+            stage = h.stage;
+            stages = h.stages;
             fact_room = room;
             message_room = h.message_room;
             few_facts = h.few_facts;
@@ -156,7 +159,7 @@ module _ {D : Type 0} (state : D → DiskState) (images : D → ℕ → List ℕ
       → DeclaresLate state images s node (record made { facts = facts }) (Ok tt)
   late_done only_now node reserved facts made s same d kept added room = record {
     declared = record {
-      table = more_facts made facts nothing_stored room d.declared.table;
+      table = more_facts made facts (new_disk node.state) room d.declared.table;
       told = ap (map fact_of) (added ∙ ap (λ l. l ++ told.Recovered made.store made.table ∷ []) (ap (λ (g : Gathered StoreFact). g.items.items) kept ∙ same)) ∙ facts_told;
       sent = d.declared.sent ∙ sym (append-nil (sent_by node));
       same = record { store = d.declared.same.store; table = d.declared.same.table; schema = d.declared.same.schema };
@@ -167,7 +170,7 @@ module _ {D : Type 0} (state : D → DiskState) (images : D → ℕ → List ℕ
     only = tt;
     none = none_left;
     left = λ _. tt;
-    blank = λ blank. none_left (blank_holds st im only_now node.schema node.devs blank);
+    blank = λ blank. none_left (blank_holds st im only_now node.schema node.state node.devs blank);
   }
     where
       facts_told : map fact_of (node.facts.items.items ++ told.Recovered made.store made.table ∷ []) ≡ told_by node ++ facts_of.StoreRecovered node.store node.table ∷ []
@@ -187,7 +190,7 @@ module _ {D : Type 0} (state : D → DiskState) (images : D → ℕ → List ℕ
     only = d.only;
     none = none_left;
     left = λ was. d.left was;
-    blank = λ blank. none_left (blank_holds st im only_now node.schema node.devs blank);
+    blank = λ blank. none_left (blank_holds st im only_now node.schema node.state node.devs blank);
   }
     where
       none_left : HoldsNone state node → LeavesNone state images node made

@@ -9,6 +9,8 @@ use Rattle.vault.specs.Calls.{IsEither}
 use Rattle.vault.proofs.Uppers.{runs_then, runs_weaker}
 use Rattle.stab_base.specs.declared.chunk_name.ChunkName.{ChunkName}
 use Rattle.row_value.specs.declared.schema.Schema.{Schema}
+use Rattle.table_model.specs.declared.table_state.TableState.{TableState}
+use Rattle.device_laws.specs.Stands.{state_number}
 use Rattle.chunk_store.specs.Payload.{chunks_of}
 use Rattle.chunk_store.specs.Standing as chunks
 use Rattle.row_store.specs.Data.{TableData, data_of, nothing_held, with_table}
@@ -31,17 +33,17 @@ devs_of c h p = record { chunks = c; held = h; pending = p }
 same_devs : (c : List (ChunkName × List ℕ)) (h : TableData) (p : Option Entry) (d : List (ChunkName × List ℕ)) (i : TableData) (q : Option Entry) → c ≡ d → h ≡ i → p ≡ q → devs_of c h p ≡ devs_of d i q
 same_devs c h p d i q a b e = cc
 
-module _ {D : Type 0} (state : D → DiskState) (images : D → ℕ → List ℕ → Type 0) (only_now : (disk : D) (image : List ℕ) → images disk (state disk).moment image → IsImage (state disk).pending image) (schema : Schema) where
+module _ {D : Type 0} (state : D → DiskState) (images : D → ℕ → List ℕ → Type 0) (only_now : (disk : D) (image : List ℕ) → images disk (state disk).moment image → IsImage (state disk).pending image) (schema : Schema) (stage : TableState) where
   -- of each device by itself: no chunk, no row and no open entry
   pub record SomeLeave (old new : TableDevs D) : Type 0 where
     pub chunks : chunks.Leaves state images old.chunks new.chunks (λ here. here ≡ [])
-    pub rows : RowsLeave state images old new (IsEither nothing_held (no_rows schema).held)
+    pub rows : RowsLeave state images old new (IsEither nothing_held (no_rows schema stage).held)
     pub log : logs.Leaves state images old.log new.log (λ here. here ≡ None)
 
-  pub together : (old new : TableDevs D) → SomeLeave old new → LeavesNoRows state images schema old new
+  pub together : (old new : TableDevs D) → SomeLeave old new → LeavesNoRows state images schema stage old new
   together old new k = record {
-    any_moment = leave state images only_now old new (λ here. here ≡ []) (IsEither nothing_held (no_rows schema).held) (λ here. here ≡ None) (IsEither nothing (no_rows schema)) k.chunks k.rows k.log
-        (λ x y z px py pz. ⊎_elim (λ is. inl (same_devs x y z [] nothing_held None px is pz)) (λ is. inr (same_devs x y z [] (no_rows schema).held None px is pz)) py);
+    any_moment = leave state images only_now old new (λ here. here ≡ []) (IsEither nothing_held (no_rows schema stage).held) (λ here. here ≡ None) (IsEither nothing (no_rows schema stage)) k.chunks k.rows k.log
+        (λ x y z px py pz. ⊎_elim (λ is. inl (same_devs x y z [] nothing_held None px is pz)) (λ is. inr (same_devs x y z [] (no_rows schema stage).held None px is pz)) py);
     rows_left = k.rows;
   }
 
@@ -49,19 +51,19 @@ module _ {D : Type 0} (state : D → DiskState) (images : D → ℕ → List ℕ
   pub none_some : (old new : TableDevs D) → NoneLeave state images old new → SomeLeave old new
   none_some old new none = record {
     chunks = none.chunks;
-    rows = rows_weaker state images old new (λ held. held ≡ nothing_held) (IsEither nothing_held (no_rows schema).held) none.rows (λ held is. inl is);
+    rows = rows_weaker state images old new (λ held. held ≡ nothing_held) (IsEither nothing_held (no_rows schema stage).held) none.rows (λ held is. inl is);
     log = none.log;
   }
 
   -- ---- devices that hold nothing, or the record of the table alone
 
   abbrev HoldsEither : TableDevs D → Type 0
-  HoldsEither table = IsEither nothing (no_rows schema) (devs state table)
+  HoldsEither table = IsEither nothing (no_rows schema stage) (devs state table)
 
   no_chunk : (table : TableDevs D) → HoldsEither table → chunks.chunks state table.chunks ≡ []
   no_chunk table either = ⊎_elim (λ is. ap (λ (d : Devs). d.chunks) is) (λ is. ap (λ (d : Devs). d.chunks) is) either
 
-  no_row : (table : TableDevs D) → HoldsEither table → IsEither nothing_held (no_rows schema).held (devs state table).held
+  no_row : (table : TableDevs D) → HoldsEither table → IsEither nothing_held (no_rows schema stage).held (devs state table).held
   no_row table either = ⊎_elim (λ is. inl (ap (λ (d : Devs). d.held) is)) (λ is. inr (ap (λ (d : Devs). d.held) is)) either
 
   no_open : (table : TableDevs D) → HoldsEither table → logs.entry_open state table.log ≡ None
@@ -71,27 +73,27 @@ module _ {D : Type 0} (state : D → DiskState) (images : D → ℕ → List ℕ
   pub held_some : (old new : TableDevs D) → HoldsEither old → AllLeave state images old new → SomeLeave old new
   held_some old new either k = record {
     chunks = runs_weaker state images (chunks.vault_of old.chunks) (chunks.vault_of new.chunks) (λ l. chunks_of l ≡ chunks.chunks state old.chunks) (λ l. chunks_of l ≡ []) k.chunks (λ l is. is ∙ no_chunk old either);
-    rows = rows_weaker state images old new (λ held. held ≡ (devs state old).held) (IsEither nothing_held (no_rows schema).held) k.rows (λ held is. subst (IsEither nothing_held (no_rows schema).held) (sym is) (no_row old either));
+    rows = rows_weaker state images old new (λ held. held ≡ (devs state old).held) (IsEither nothing_held (no_rows schema stage).held) k.rows (λ held is. subst (IsEither nothing_held (no_rows schema stage).held) (sym is) (no_row old either));
     log = runs_weaker state images (logs.vault_of old.log) (logs.vault_of new.log) (λ l. pending_of l ≡ logs.entry_open state old.log) (λ l. pending_of l ≡ None) k.log (λ l is. is ∙ no_open old either);
   }
 
   -- the put of the table's record, behind calls that leave none
-  pub record_put : (old mid new : TableDevs D) (r : Result (Unit {0}) CommitFault) → HoldsEither mid → SomeLeave old mid → PutsRecord state images schema mid new r → SomeLeave old new
+  pub record_put : (old mid new : TableDevs D) (r : Result (Unit {0}) CommitFault) → HoldsEither mid → SomeLeave old mid → PutsRecord state images schema stage mid new r → SomeLeave old new
   record_put old mid new r either first put = record {
     chunks = runs_then state images (chunks.vault_of old.chunks) (chunks.vault_of mid.chunks) (chunks.vault_of new.chunks) (λ l. chunks_of l ≡ []) (λ l. chunks_of l ≡ chunks.chunks state mid.chunks) (λ l. chunks_of l ≡ []) first.chunks put.chunks
         (λ l is. is) (λ l is. is ∙ no_chunk mid either);
-    rows = rows_then state images old mid new (IsEither nothing_held (no_rows schema).held) (IsEither (devs state mid).held (with_table (devs state mid).held schema 2)) (IsEither nothing_held (no_rows schema).held) first.rows put.rows
-        (λ held is. is) (λ held is. ⊎_elim (λ before. subst (IsEither nothing_held (no_rows schema).held) (sym before) (no_row mid either)) (λ after. inr (after ∙ put_is)) is);
+    rows = rows_then state images old mid new (IsEither nothing_held (no_rows schema stage).held) (IsEither (devs state mid).held (with_table (devs state mid).held schema (state_number stage))) (IsEither nothing_held (no_rows schema stage).held) first.rows put.rows
+        (λ held is. is) (λ held is. ⊎_elim (λ before. subst (IsEither nothing_held (no_rows schema stage).held) (sym before) (no_row mid either)) (λ after. inr (after ∙ put_is)) is);
     log = runs_then state images (logs.vault_of old.log) (logs.vault_of mid.log) (logs.vault_of new.log) (λ l. pending_of l ≡ None) (λ l. pending_of l ≡ logs.entry_open state mid.log) (λ l. pending_of l ≡ None) first.log put.log
         (λ l is. is) (λ l is. is ∙ no_open mid either);
   }
     where
-      put_is : with_table (devs state mid).held schema 2 ≡ (no_rows schema).held
-      put_is = ⊎_elim (λ is. ap (λ (d : Devs). with_table d.held schema 2) is) (λ is. ap (λ (d : Devs). with_table d.held schema 2) is) either
+      put_is : with_table (devs state mid).held schema (state_number stage) ≡ (no_rows schema stage).held
+      put_is = ⊎_elim (λ is. ap (λ (d : Devs). with_table d.held schema (state_number stage)) is) (λ is. ap (λ (d : Devs). with_table d.held schema (state_number stage)) is) either
 
   -- ---- while nothing is done
 
-  pub still_some : (table : TableDevs D) → AreUp table → HoldNone state schema table → SomeLeave table table
+  pub still_some : (table : TableDevs D) → AreUp table → HoldNone state schema stage table → SomeLeave table table
   still_some table up k =
       held_some table table k.held
       (record {
@@ -109,7 +111,7 @@ module _ {D : Type 0} (state : D → DiskState) (images : D → ℕ → List ℕ
       let left = short_stands state images only_now file blank.short in
       (left.1.records ∙ left.2, subst (StandsFor file) (sym left.1.records) left.1)
 
-  pub blank_holds : (table : TableDevs D) → AreBlank state table → HoldNone state schema table
+  pub blank_holds : (table : TableDevs D) → AreBlank state table → HoldNone state schema stage table
   blank_holds table blank =
       let c = blank_vault (chunks.vault_of table.chunks) blank.chunks in
       let r = blank_vault (rows.vault_of table.rows) blank.rows in

@@ -11,7 +11,7 @@ use Rattle.row_value.specs.declared.schema.Schema.{Schema}
 use Rattle.status_log.specs.Entry.{Entry}
 use Rattle.step_tables.specs.declared.message.Message.{Message}
 use Rattle.step_tables.specs.Store.{Stored}
-use Rattle.step_tables.specs.StoreMoves.{StoreDisk, StoreChange, StoreTask, StoreStep, TableStore, Take, version_at, version_of}
+use Rattle.step_tables.specs.StoreMoves.{StoreDisk, StoreChange, StoreTask, StoreStep, SidePut, TableStore, Take, version_at, version_of}
 use Rattle.step_tables.specs.StoreMoves as moves
 use Rattle.step_tables.specs.Facts as facts_of
 use Rattle.step_tables.specs.Travels.{message_of}
@@ -26,7 +26,7 @@ use Rattle.store_node.specs.declared.fault.NodeFault.{NodeFault}
 use Rattle.store_node.specs.declared.fault.NodeFault.TheVariants.{NoRow, Busy, Spent, Disk, Memory}
 use Rattle.store_node.specs.declared.node.TableNode.{TableNode}
 use Rattle.store_node.specs.Node.{IsWorking, IsTable, IsNode, told_by, sent_by, LeavesEither, has_task}
-use Rattle.store_node.specs.Calls.{IsBehind, Stays, Answers, Delivers, IsTaken, IsSpent, IsAtWork, step_at}
+use Rattle.store_node.specs.Calls.{IsBehind, Stays, Answers, Delivers, Places, put_step, IsTaken, IsSpent, IsAtWork, step_at}
 use Rattle.store_node.proofs.Following.{follows_now, no_task, no_write}
 use Rattle.store_node.proofs.Working.{still_rows}
 
@@ -47,6 +47,8 @@ work_same schema d disk (devs_of.PutChunk name bytes) ws (moves.PutChunk other) 
 work_same schema d disk (devs_of.PutRow stored) ws (moves.Put item named old) st h = pending_same schema.chunk disk disk.pending d.pending st.entry
 work_same schema d disk (devs_of.DropChunk name) ws (moves.DropChunk other) st h = pending_same schema.chunk disk disk.pending d.pending st.entry
 work_same schema d disk devs_of.CloseEntry ws moves.Close st h = pending_same schema.chunk disk disk.pending d.pending st.entry
+work_same schema d disk (devs_of.PutTable other number) ws (moves.PutBeside (moves.PutState stage)) st h = pending_same schema.chunk disk disk.pending d.pending st.entry
+work_same schema d disk (devs_of.PutSub client terms) ws (moves.PutBeside (moves.PutSub other some)) st h = pending_same schema.chunk disk disk.pending d.pending st.entry
 work_same schema d disk w ws change st h = absurd h
 
 module _ {D : Type 0} (state : D → DiskState) (images : D → ℕ → List ℕ → Type 0) (only_now : (disk : FuseDisk D) (image : List ℕ) → images (inner_of disk) (behind state disk).moment image → IsImage (behind state disk).pending image) where
@@ -83,6 +85,25 @@ module _ {D : Type 0} (state : D → DiskState) (images : D → ℕ → List ℕ
     busy = λ v. (λ e. let same : version ≡ v = cc in sym same ∙ work, λ w. let same : version ≡ v = work ∙ sym w in ap (λ (n : ℕ). Err (Busy n)) same);
     given = λ _ _. tt;
     spent = λ last e. absurd cc;
+    refused = λ _. stays node (at disk (Some (task ∷ tasks))) t;
+    fallen = λ e. absurd cc;
+    counted = λ _. refl;
+    cause = λ e. absurd cc;
+    only = inl (version, refl);
+    any_moment = rests node disk (task ∷ tasks) t.at.1;
+    rows_left = still_rows state images only_now node disk (task ∷ tasks) t.at.1;
+  }
+    where
+      work : version ≡ version_at disk task.change
+      work = is ∙ at_work_is node.schema (devs st node.devs) (writes_of node.devs) disk task tasks t.at.1.follows
+
+  pub busy_to_place : (node : TableNode D) (disk : StoreDisk) (agenda : Option (List StoreTask)) → IsTable state node (at disk agenda) → node.is_up ≡ true → (writes_of node.devs ≡ [] → ⊥)
+      → (put : SidePut) (version : ℕ) → version ≡ at_work (devs st node.devs) (writes_of node.devs) → Places state images (at disk agenda) put node node (Err (Busy version))
+  busy_to_place node disk None t up some put version is = let no_ = t.at.0 in absurd cc
+  busy_to_place node disk (Some []) t up some put version is = absurd (some (no_write node.schema (devs st node.devs) (writes_of node.devs) disk t.at.1.follows))
+  busy_to_place node disk (Some (task ∷ tasks)) t up some put version is = record {
+    placed = tt;
+    busy = λ v. (λ e. let same : version ≡ v = cc in sym same ∙ work, λ w. let same : version ≡ v = work ∙ sym w in ap (λ (n : ℕ). Err (Busy n)) same);
     refused = λ _. stays node (at disk (Some (task ∷ tasks))) t;
     fallen = λ e. absurd cc;
     counted = λ _. refl;
@@ -183,6 +204,37 @@ module _ {D : Type 0} (state : D → DiskState) (images : D → ℕ → List ℕ
     any_moment = a.any_moment;
     rows_left = a.rows_left;
   }
+
+  -- what is put beside the rows
+
+  put_faults : (r : Result (Unit {0}) NodeFault) → (IsErrOf r (Spent NUMBER_MAX) → ⊥) → IfErr r (λ e. (e ≡ Spent NUMBER_MAX) ⊎ ((e ≡ Disk) ⊎ (e ≡ Memory)))
+      → IfErr r (λ e. ((version : ℕ) × (e ≡ Busy version)) ⊎ ((e ≡ Disk) ⊎ (e ≡ Memory)))
+  put_faults (Ok x) none only = tt
+  put_faults (Err e) none only = ⊎_elim (λ is. absurd (none (ap (λ (f : NodeFault). Err f) is))) (λ more. inr more) only
+
+  pub places : (old new : TableNode D) (disk : StoreDisk) (agenda : Option (List StoreTask)) → agenda ≡ Some [] → (put : SidePut) (r : Result (Unit {0}) NodeFault)
+      → Answers state images (at disk agenda) (put_step old.table disk put) ⊥ old new r → Places state images (at disk agenda) put old new r
+  places old new disk None is put r a = absurd cc
+  places old new disk (Some (task ∷ tasks)) is put r a = absurd cc
+  places old new disk (Some []) is put r a = record {
+    placed = a.done;
+    busy = λ v. (λ e. absurd (not_busy r v a.only e), λ w. absurd w);
+    refused = a.refused;
+    fallen = a.fallen;
+    counted = a.counted;
+    cause = a.cause;
+    only = put_faults r a.spent a.only;
+    any_moment = a.any_moment;
+    rows_left = a.rows_left;
+  }
+
+  pub places_node : (s : TableStore) (put : SidePut) (old new : TableNode D) (r : Result (Unit {0}) NodeFault) → Places state images s put old new r → IsNode state new
+  places_node s put old new (Ok x) k = (_, k.placed.table)
+  places_node s put old new (Err (Busy v)) k = (_, (k.refused (λ is. cc)).table)
+  places_node s put old new (Err (Spent last)) k = absurd (⊎_elim (λ b. let no_ = b.1 in cc) (λ more. ⊎_elim (λ a. cc) (λ a. cc) more) k.only)
+  places_node s put old new (Err Disk) k = (_, (k.fallen refl).table)
+  places_node s put old new (Err Memory) k = (_, (k.refused (λ is. cc)).table)
+  places_node s put old new (Err NoRow) k = absurd (⊎_elim (λ b. let no_ = b.1 in cc) (λ more. ⊎_elim (λ a. cc) (λ a. cc) more) k.only)
 
   -- a request that is dropped, and one that is taken as another step has it
   pub stays_put : (node : TableNode D) (disk : StoreDisk) → IsTable state node (at disk (Some [])) → (step : StoreStep) → step ≡ moves.quiet disk (Some []) facts_of.Done → (is_spent : Type 0) → (is_spent → ⊥)

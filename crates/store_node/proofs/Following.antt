@@ -1,5 +1,5 @@
 -- Writes and tasks side by side, and what a done write makes of a node.
-use Rattle.std.proofs.Common.{◌≡◌, inl, inr, ⊎_elim, ℕ, ◌+◌, ◌<◌, Bool, true, false, List, [], ◌∷◌, Option, Ok, refl, sym, ap, subst, arith}
+use Rattle.std.proofs.Common.{◌≡◌, inl, inr, ⊎_elim, ℕ, ◌+◌, ◌<◌, Bool, true, false, List, [], ◌∷◌, Option, Ok, refl, sym, ◌∙◌, ap, subst, arith}
 use Rattle.std.specs.Bool.{MatchBool}
 use Rattle.disk_trait.specs.Calls.{DiskState}
 use Rattle.disk_trait.specs.Fuse.{behind, inner_of}
@@ -16,11 +16,12 @@ use Rattle.store_commit.specs.Standing as commits
 use Rattle.store_commit.specs.Fused.{SameDisks}
 use Rattle.store_commit.specs.Unset.{KeepsUnset, all_stops}
 use Rattle.step_tables.specs.declared.message.Message.{Message}
+use Rattle.table_model.specs.declared.table_state.TableState.{TableState}
 use Rattle.step_tables.specs.Store.{Stored}
 use Rattle.step_tables.specs.StoreMoves.{StoreDisk, StoreTask, StoreChange, TableStore, changed}
 use Rattle.step_tables.specs.StoreMoves as moves
 use Rattle.device_laws.specs.Stands.{Stands, Follows, IsWriteOf}
-use Rattle.store_node.specs.Due.{is_last_of}
+use Rattle.store_node.specs.Due.{is_last_of, state_at}
 use Rattle.store_node.specs.Gathered.{HasRoom}
 use Rattle.store_node.specs.declared.gathered.Gathered.{Gathered}
 use Rattle.store_node.specs.declared.told.StoreFact.{StoreFact}
@@ -53,6 +54,8 @@ same_step size items (devs_of.PutChunk name bytes) (moves.PutChunk other) h = re
 same_step size items (devs_of.PutRow stored) (moves.Put item named old) h = refl
 same_step size items (devs_of.DropChunk name) (moves.DropChunk other) h = refl
 same_step size items devs_of.CloseEntry moves.Close h = refl
+same_step size items (devs_of.PutTable schema number) (moves.PutBeside (moves.PutState stage)) h = refl
+same_step size items (devs_of.PutSub client terms) (moves.PutBeside (moves.PutSub other some)) h = refl
 same_step size items w change h = absurd h
 
 pub well_now : (schema : Schema) (disk : StoreDisk) (tasks : List StoreTask) → GoesWell schema disk tasks → AreFit schema disk.items
@@ -103,11 +106,11 @@ module _ {D : Type 0} (state : D → DiskState) where
     pub step_w : step_of w ≡ moves.step_of task.change
     step_w = same_step old.schema.chunk disk.items w task.change follows_w.1
 
-    pub done_working : (table : TableDevs (FuseDisk D)) (facts : Gathered StoreFact) (messages : Gathered (Option Node × Message)) (step : Step)
+    pub done_working : (table : TableDevs (FuseDisk D)) (facts : Gathered StoreFact) (messages : Gathered (Option Node × Message)) (stage : TableState) (step : Step) → stage ≡ state_at old.owed old.state
         → commits.Works (behind state) (λ f. images (inner_of f)) w ws old.devs table (Ok step) → writes_of table ≡ ws → KeepsUnset (behind state) old.devs table → NothingHidden table
         → HasRoom facts (facts_in tasks) → HasRoom messages (sends_in tasks)
-        → IsWorking state (record old { devs = table; facts = facts; messages = messages }) (changed disk task.change) tasks
-    done_working table facts messages step k rest keeps hidden fact_room message_room = record {
+        → IsWorking state (record old { devs = table; facts = facts; messages = messages; state = stage }) (changed disk task.change) tasks
+    done_working table facts messages stage step behind_is k rest keeps hidden fact_room message_room = record {
       declared = h.declared;
       up = k.up;
       fresh = keeps.fresh h.fresh;
@@ -116,6 +119,8 @@ module _ {D : Type 0} (state : D → DiskState) where
       follows = subst (λ (l : List Write). Follows old.schema (devs (behind state) table) l (changed disk task.change) tasks) (sym rest) (subst (λ (d : Devs). Follows old.schema d ws (changed disk task.change) tasks) (sym k.devs_are) follows_w.2);
       well = h.well.1;
       owed = subst (λ (l : List Write). AreOwed old.table old.owed l tasks) (sym rest) owed_w.2;
+      stage = behind_is ∙ (ap (state_at old.owed) h.stage ∙ sym (h.stages.0 disk));
+      stages = h.stages.1;
       fact_room = fact_room;
       message_room = message_room;
       few_facts = let few = h.few_facts in omega arith;

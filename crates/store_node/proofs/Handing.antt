@@ -63,6 +63,10 @@ module _ {D : Type 0} (state : D → DiskState) (images : D → ℕ → List ℕ
   node_hidden node disk None t up = let no = t.at.0 in absurd cc
   node_hidden node disk (Some tasks) t up = t.at.1.hidden
 
+  pub state_is : (node : TableNode D) (disk : StoreDisk) (agenda : Option (List StoreTask)) → IsTable state node (at disk agenda) → node.is_up ≡ true → node.state ≡ disk.state
+  state_is node disk None t up = let no = t.at.0 in absurd cc
+  state_is node disk (Some tasks) t up = t.at.1.stage
+
   -- there is room for what the next write tells and sends
   pub fact_due_room : (node : TableNode D) (l : List Write) → writes_of node.devs ≡ l → (writes_of node.devs ≡ [] → ⊥) → (disk : StoreDisk) (agenda : Option (List StoreTask)) → IsTable state node (at disk agenda) → node.is_up ≡ true
       → (table : TableDevs (FuseDisk D)) (step : Step) (is_last : Bool) → WorksOn st im node.devs table (Ok step) l → is_last ≡ is_last_of (writes_of table)
@@ -114,6 +118,8 @@ module _ {D : Type 0} (state : D → DiskState) (images : D → ℕ → List ℕ
             follows = h.follows;
             well = h.well;
             owed = h.owed;
+            stage = h.stage;
+            stages = h.stages;
             fact_room = fr (facts_in tasks) h.few_facts h.fact_room;
             message_room = mr (sends_in tasks) h.few_messages h.message_room;
             few_facts = h.few_facts;
@@ -159,6 +165,8 @@ moved_node state node store disk (Some tasks) t =
           follows = h.follows;
           well = h.well;
           owed = h.owed;
+          stage = h.stage;
+          stages = h.stages;
           fact_room = h.fact_room;
           message_room = h.message_room;
           few_facts = h.few_facts;

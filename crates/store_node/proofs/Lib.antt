@@ -4,10 +4,12 @@ pub mod Falling
 pub mod Working
 pub mod Crashing
 pub mod Starting
+pub mod Stages
 pub mod Recovering
 pub mod Handing
 pub mod Blanks
 pub mod Clearing
+pub mod States
 pub mod Making
 pub mod Whole
 pub mod Beginning

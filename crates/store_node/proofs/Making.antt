@@ -7,6 +7,8 @@ use Rattle.disk_trait.specs.Image.{IsImage}
 use Rattle.disk_trait.specs.Calls.{DiskState}
 use Rattle.vault.specs.Calls.{IsEither}
 use Rattle.row_value.specs.declared.schema.Schema.{Schema}
+use Rattle.table_model.specs.declared.table_state.TableState.{TableState}
+use Rattle.device_laws.specs.Stands.{state_number}
 use Rattle.chunk_store.specs.declared.device.ChunkDev.{ChunkDev}
 use Rattle.chunk_store.specs.Standing as chunks
 use Rattle.row_store.specs.Data.{with_table}
@@ -70,8 +72,8 @@ module _ {D : Type 0} (state : D → DiskState) (images : D → ℕ → List ℕ
 
   -- ---- the put of the record
 
-  module _ (schema : Schema) (old begun : TableDevs D) (w : Write) (table_is : w ≡ PutTable schema 2) (rests : IsReady state old []) (idle : writes_of old ≡ []) where
-    pub begin_refused : (e : CommitFault) → KeepsUnset state old begun → TakesOn {T = Unit {0}} state images ⊥ (λ _. w ∷ []) old begun (Err e) → PutsRecord state images schema old begun (Err e)
+  module _ (schema : Schema) (stage : TableState) (old begun : TableDevs D) (w : Write) (table_is : w ≡ PutTable schema (state_number stage)) (rests : IsReady state old []) (idle : writes_of old ≡ []) where
+    pub begin_refused : (e : CommitFault) → KeepsUnset state old begun → TakesOn {T = Unit {0}} state images ⊥ (λ _. w ∷ []) old begun (Err e) → PutsRecord state images schema stage old begun (Err e)
     begin_refused e keeps k =
         let left = k.leave (ready_up old [] rests) in
         record {
@@ -83,7 +85,7 @@ module _ {D : Type 0} (state : D → DiskState) (images : D → ℕ → List ℕ
           fuse = keeps;
           cause = takes_cause (λ _. w ∷ []) old begun e (ready_up old [] rests) idle k;
           chunks = left.chunks;
-          rows = rows_weaker state images old begun (λ held. held ≡ (devs state old).held) (IsEither (devs state old).held (with_table (devs state old).held schema 2)) left.rows (λ held is. inl is);
+          rows = rows_weaker state images old begun (λ held. held ≡ (devs state old).held) (IsEither (devs state old).held (with_table (devs state old).held schema (state_number stage))) left.rows (λ held is. inl is);
           log = left.log;
         }
 
@@ -103,10 +105,10 @@ module _ {D : Type 0} (state : D → DiskState) (images : D → ℕ → List ℕ
       counted : all_faults state begun ≡ all_faults state old
       counted = k.counted (λ is. cc)
 
-      put_is : changed_by (devs state begun) w ≡ changed_by (devs state old) (PutTable schema 2)
+      put_is : changed_by (devs state begun) w ≡ changed_by (devs state old) (PutTable schema (state_number stage))
       put_is = ap (λ (d : Devs). changed_by d w) same ∙ ap (λ (v : Write). changed_by (devs state old) v) table_is
 
-      stay : OthersStay (device_of (PutTable schema 2)) begun new
+      stay : OthersStay (device_of (PutTable schema (state_number stage))) begun new
       stay = subst (λ (v : Write). OthersStay (device_of v) begun new) table_is (subst (λ (l : List Write). StayBeside l begun new) k.taken others)
 
       chunks_left : chunks.Leaves state images old.chunks new.chunks (λ here. here ≡ chunks.chunks state old.chunks)
@@ -115,12 +117,12 @@ module _ {D : Type 0} (state : D → DiskState) (images : D → ℕ → List ℕ
       log_left : logs.Leaves state images old.log new.log (λ here. here ≡ logs.entry_open state old.log)
       log_left = subst (λ (x : StatusLog D). logs.Leaves state images old.log x (λ here. here ≡ logs.entry_open state old.log)) (sym stay.1) left.log
 
-      rows_put : (r : Result Step CommitFault) → WorksOn state images begun new r (writes_of begun) → RowsLeave state images old new (IsEither (devs state old).held (with_table (devs state old).held schema 2))
+      rows_put : (r : Result Step CommitFault) → WorksOn state images begun new r (writes_of begun) → RowsLeave state images old new (IsEither (devs state old).held (with_table (devs state old).held schema (state_number stage)))
       rows_put r h =
-          rows_then state images old begun new (λ held. held ≡ (devs state old).held) (IsEither (devs state begun).held (changed_by (devs state begun) w).held) (IsEither (devs state old).held (with_table (devs state old).held schema 2)) left.rows (works r h).0.rows_left
+          rows_then state images old begun new (λ held. held ≡ (devs state old).held) (IsEither (devs state begun).held (changed_by (devs state begun) w).held) (IsEither (devs state old).held (with_table (devs state old).held schema (state_number stage))) left.rows (works r h).0.rows_left
           (λ held is. inl is) (λ held either. ⊎_elim (λ is. inl (is ∙ ap (λ (d : Devs). d.held) same)) (λ is. inr (is ∙ ap (λ (d : Devs). d.held) put_is)) either)
 
-      pub work_refused : (e : CommitFault) → WorksOn state images begun new (Err e) (writes_of begun) → PutsRecord state images schema old new (Err e)
+      pub work_refused : (e : CommitFault) → WorksOn state images begun new (Err e) (writes_of begun) → PutsRecord state images schema stage old new (Err e)
       work_refused e h =
           let d = (works (Err e) h).0.disk e refl in
           record {
@@ -136,7 +138,7 @@ module _ {D : Type 0} (state : D → DiskState) (images : D → ℕ → List ℕ
             log = log_left;
           }
 
-      pub record_done : (step : Step) → (NothingHidden old → NothingHidden new) → WorksOn state images begun new (Ok step) (writes_of begun) → PutsRecord state images schema old new (Ok tt)
+      pub record_done : (step : Step) → (NothingHidden old → NothingHidden new) → WorksOn state images begun new (Ok step) (writes_of begun) → PutsRecord state images schema stage old new (Ok tt)
       record_done step hidden h =
           let x = works (Ok step) h in
           record {
@@ -152,12 +154,12 @@ module _ {D : Type 0} (state : D → DiskState) (images : D → ℕ → List ℕ
             log = log_left;
           }
 
-  module _ (only_now : (disk : D) (image : List ℕ) → images disk (state disk).moment image → IsImage (state disk).pending image) (schema : Schema) (table : TableDevs D) (rests : IsReady state table []) where
-    still_left : RowsLeave state images table table (IsEither (devs state table).held (with_table (devs state table).held schema 2))
-    still_left = rows_weaker state images table table (λ held. held ≡ (devs state table).held) (IsEither (devs state table).held (with_table (devs state table).held schema 2)) (still_row state images only_now table.rows rests.row_looked.vault rests.row_sound) (λ held is. inl is)
+  module _ (only_now : (disk : D) (image : List ℕ) → images disk (state disk).moment image → IsImage (state disk).pending image) (schema : Schema) (stage : TableState) (table : TableDevs D) (rests : IsReady state table []) where
+    still_left : RowsLeave state images table table (IsEither (devs state table).held (with_table (devs state table).held schema (state_number stage)))
+    still_left = rows_weaker state images table table (λ held. held ≡ (devs state table).held) (IsEither (devs state table).held (with_table (devs state table).held schema (state_number stage))) (still_row state images only_now table.rows rests.row_looked.vault rests.row_sound) (λ held is. inl is)
 
     -- memory was refused, and nothing was put
-    pub record_short : PutsRecord state images schema table table (Err Memory)
+    pub record_short : PutsRecord state images schema stage table table (Err Memory)
     record_short = record {
       held = tt;
       ready = tt;
@@ -172,7 +174,7 @@ module _ {D : Type 0} (state : D → DiskState) (images : D → ℕ → List ℕ
     }
 
     -- the record is there
-    pub record_there : writes_of table ≡ [] → (devs state table).held.table ≡ Some (schema, 2) → PutsRecord state images schema table table (Ok tt)
+    pub record_there : writes_of table ≡ [] → (devs state table).held.table ≡ Some (schema, state_number stage) → PutsRecord state images schema stage table table (Ok tt)
     record_there idle there = record {
       held = same (devs state table) there;
       ready = rests;
@@ -186,20 +188,20 @@ module _ {D : Type 0} (state : D → DiskState) (images : D → ℕ → List ℕ
       log = still_log state images only_now table.log rests.log_looked.vault rests.log_sound;
     }
       where
-        same : (d : Devs) → d.held.table ≡ Some (schema, 2) → d ≡ changed_by d (PutTable schema 2)
+        same : (d : Devs) → d.held.table ≡ Some (schema, state_number stage) → d ≡ changed_by d (PutTable schema (state_number stage))
         same d there = rw (sym there) refl
 
   -- ---- a declaration
 
-  module _ (only_now : (disk : D) (image : List ℕ) → images disk (state disk).moment image → IsImage (state disk).pending image) (schema : Schema) (such : Type 0) (old : TableDevs D) where
+  module _ (only_now : (disk : D) (image : List ℕ) → images disk (state disk).moment image → IsImage (state disk).pending image) (schema : Schema) (stage : TableState) (such : Type 0) (old : TableDevs D) where
     -- the disks weren't made ready
-    pub not_made : (mid : TableDevs D) (e : CommitFault) → KeepsUnset state old mid → HasCause {T = Unit {0}} state old mid (Err e) → (such → SomeLeave state images only_now schema old mid)
-        → MakesTable state images such schema old mid (Err e)
-    not_made mid e fuse cause none = record { held = tt; ready = tt; idle = tt; up = tt; hidden = tt; fuse = fuse; cause = cause; none = λ was. together state images only_now schema old mid (none was) }
+    pub not_made : (mid : TableDevs D) (e : CommitFault) → KeepsUnset state old mid → HasCause {T = Unit {0}} state old mid (Err e) → (such → SomeLeave state images only_now schema stage old mid)
+        → MakesTable state images such schema stage old mid (Err e)
+    not_made mid e fuse cause none = record { held = tt; ready = tt; idle = tt; up = tt; hidden = tt; fuse = fuse; cause = cause; none = λ was. together state images only_now schema stage old mid (none was) }
 
     -- they were, and the record was put, or not
-    pub made : (mid new : TableDevs D) (r : Result (Unit {0}) CommitFault) → KeepsUnset state old mid → HasCause {T = Unit {0}} state old mid (Ok tt) → NothingHidden mid → changed_by (devs state mid) (PutTable schema 2) ≡ no_rows schema
-        → (such → IsEither nothing (no_rows schema) (devs state mid)) → (such → SomeLeave state images only_now schema old mid) → PutsRecord state images schema mid new r → MakesTable state images such schema old new r
+    pub made : (mid new : TableDevs D) (r : Result (Unit {0}) CommitFault) → KeepsUnset state old mid → HasCause {T = Unit {0}} state old mid (Ok tt) → NothingHidden mid → changed_by (devs state mid) (PutTable schema (state_number stage)) ≡ no_rows schema stage
+        → (such → IsEither nothing (no_rows schema stage) (devs state mid)) → (such → SomeLeave state images only_now schema stage old mid) → PutsRecord state images schema stage mid new r → MakesTable state images such schema stage old new r
     made mid new r fuse cause hidden bare held none put = record {
       held = on_ok_weaker r (λ is. is ∙ bare) put.held;
       ready = put.ready;
@@ -208,7 +210,7 @@ module _ {D : Type 0} (state : D → DiskState) (images : D → ℕ → List ℕ
       hidden = put.hidden hidden;
       fuse = keeps_then state old mid new fuse put.fuse;
       cause = cause_then state old mid new tt r cause put.cause;
-      none = λ was. together state images only_now schema old new (record_put state images only_now schema old mid new r (held was) (none was) put);
+      none = λ was. together state images only_now schema stage old new (record_put state images only_now schema stage old mid new r (held was) (none was) put);
     }
 
   -- ---- a start
@@ -250,4 +252,19 @@ module _ {D : Type 0} (state : D → DiskState) (images : D → ℕ → List ℕ
     });
     left = (looked, subst (λ (d : Devs). DevsLeave state images looked new (λ x. x ≡ d)) same k.any_moment);
     rows_left = rows_go_on old looked new same rows k.rows_left;
+  }
+
+  -- the table's state wasn't read, for want of memory
+  pub not_resumed : (old new : TableDevs D) (recovery : Recovery) → BeginsStart state images old new (Ok recovery) → BeginsStart state images old new (Err Memory)
+  not_resumed old new recovery k = record {
+    answer = tt;
+    writes = tt;
+    ready = tt;
+    up = tt;
+    same = tt;
+    hidden = tt;
+    fuse = k.fuse;
+    cause = record { cause = (λ is. absurd cc, λ _. k.cause.cause); only = inr refl };
+    left = k.left;
+    rows_left = k.rows_left;
   }

@@ -21,18 +21,21 @@ use Rattle.step_tables.specs.Facts as facts_of
 use Rattle.step_tables.specs.Messages.{Send, Pair, Outcome, Request, Again, Late, Stale, Conflict, NeedWhole}
 use Rattle.step_tables.specs.Store.{Stored, current_of}
 use Rattle.step_tables.specs.StoreMoves.{StoreDisk, StoreTask, StoreStep, TableStore, accepting, item_for, sending, quiet, responded, decided, takes, unaccepted, keeps_there, version_of}
+use Rattle.step_tables.specs.StoreMoves.{PutState, beside_task}
 use Rattle.step_tables.specs.Chunks.{is_spelled}
 use Rattle.store_commit.specs.declared.devs.TableDevs.{TableDevs}
 use Rattle.store_commit.specs.declared.fault.CommitFault.{CommitFault}
 use Rattle.store_commit.specs.declared.fault.CommitFault.TheVariants as commits
-use Rattle.store_commit.specs.Devs.{Devs, Write}
+use Rattle.store_commit.specs.Devs.{Devs, Write, PutTable}
 use Rattle.store_commit.specs.Standing.{devs, writes_of, DevsLeave}
 use Rattle.store_commit.specs.TakesOn.{AllLeave}
 use Rattle.store_commit.proofs.Works.{all_same}
 use Rattle.store_commit.proofs.Moments.{devs_weaker, rows_weaker}
 use Rattle.store_commit.specs.Agenda.{update_writes}
 use Rattle.store_commit.specs.Update.{entry_for, stored_for}
-use Rattle.device_laws.specs.Stands.{Stands, Follows, update_for}
+use Rattle.table_model.specs.declared.table_state.TableState.{TableState}
+use Rattle.device_laws.specs.Stands.{Stands, Follows, update_for, state_number}
+use Rattle.device_laws.proofs.Beside.{state_follows}
 use Rattle.device_laws.proofs.Updates.{update_follows}
 use Rattle.step_tables.specs.Travels.{send_of}
 use Rattle.store_node.specs.Due.{fact_of}
@@ -47,13 +50,14 @@ use Rattle.store_node.specs.declared.fault.NodeFault.{NodeFault}
 use Rattle.store_node.specs.declared.fault.NodeFault.TheVariants as node_faults
 use Rattle.store_node.specs.declared.node.TableNode.{TableNode}
 use Rattle.store_node.specs.Node.{AreOwed, IsWorking, IsTable, IsSame, told_by, sent_by, own_faults, facts_in, sends_in, LeavesEither}
-use Rattle.store_node.specs.Calls.{Fell, Stays, Answers}
+use Rattle.store_node.specs.Calls.{Fell, Stays, Answers, put_step}
 use Rattle.store_node.proofs.Accepting.{tell_owed, accepting_tells, accepting_facts, accepting_sends, accepting_well}
 use Rattle.store_node.proofs.RowsLeft.{rows_of_disk}
 use Rattle.store_node.proofs.Falling.{MayHold, fallen, fallen_leaves, fallen_rows}
 use Rattle.store_node.proofs.Following.{own_stays, own_rises, follows_now}
 use Rattle.store_node.proofs.Making.{same_hidden, ready_up}
 use Rattle.store_node.proofs.Starting.{no_room}
+use Rattle.store_node.proofs.Stages.{accepting_puts, place_room, place_facts}
 use Rattle.store_node.proofs.Working.{still_leaves, still_rows}
 
 -- ---- a request, as it is decided
@@ -134,6 +138,8 @@ module _ {D : Type 0} (state : D → DiskState) (images : D → ℕ → List ℕ
         follows = subst (λ (l : List Write). Follows node.schema (devs st table) l disk tasks) (sym writes) (subst (λ (d : Devs). Follows node.schema d (writes_of node.devs) disk tasks) (sym (k.same not_disk)) h.follows);
         well = h.well;
         owed = subst (λ (l : List Write). AreOwed node.table node.owed l tasks) (sym writes) h.owed;
+        stage = h.stage;
+        stages = h.stages;
         fact_room = fact_room;
         message_room = message_room;
         few_facts = h.few_facts;
@@ -231,6 +237,8 @@ module _ {D : Type 0} (state : D → DiskState) (images : D → ℕ → List ℕ
                   well = accepting_well old.schema size old.table disk from q item h.well.0 fits;
                   owed = tell_owed old.table (owed.Update from item.entry) old.schema here (writes_of table) disk (accepting size old.table disk.items from q item) now
                       (accepting_tells old.table from q item of_table refl refl refl size disk.items);
+                  stage = h.stage;
+                  stages = accepting_puts from item.entry size old.table disk.items q item;
                   fact_room = subst (λ (n : ℕ). HasRoom facts n) (sym one_fact) fact_room;
                   message_room = subst (λ (n : ℕ). HasRoom messages n) (sym one_send) message_room;
                   few_facts = omega (arith, one_fact);
@@ -247,6 +255,57 @@ module _ {D : Type 0} (state : D → DiskState) (images : D → ℕ → List ℕ
           refused = λ _. tt;
           fallen = λ is. absurd cc;
           counted = λ _. own_stays state old (with_all old table facts messages) (k.counted (λ is. cc)) (k.fuse.stopped h.fresh.unset);
+          cause = λ is. absurd cc;
+          only = tt;
+          any_moment = leaves old table disk stands k.leave;
+          rows_left = rows_of_disk st im old.schema (devs st old.devs) disk stands old.devs table k.leave.rows;
+        }
+
+    -- the put of the table's state is taken on
+    pub places_on : (table : TableDevs (FuseDisk D)) (facts : Gathered StoreFact) (stage : TableState) (number : ℕ) → number ≡ state_number stage → {T : Type 0} (x : T) → Serves st im old.devs table (Ok x)
+        → writes_of table ≡ PutTable old.schema number ∷ [] → facts.items.items ≡ old.facts.items.items → HasRoom facts 1
+        → Answers state images s (put_step old.table disk (PutState stage)) ⊥ old (record old { devs = table; facts = facts; owed = owed.Place stage }) (Ok tt)
+    places_on table facts stage number is x k taken told room =
+        let here = devs st old.devs in
+        let tasks : List StoreTask = beside_task old.table (PutState stage) ∷ [] in
+        let writes = taken ∙ ap (λ (n : ℕ). PutTable old.schema n ∷ []) is in
+        let ready = k.ready (λ is. cc) in
+        let now = subst (λ (l : List Write). Follows old.schema here l disk tasks) (sym writes) (state_follows old.schema here disk old.table stage stands) in
+        record {
+          done = record {
+            table = record {
+              size = t.size;
+              spelled = t.spelled;
+              short = t.short;
+              at = (
+                t.at.0,
+                record {
+                  declared = h.declared;
+                  up = ready_up st im table (writes_of table) ready;
+                  fresh = k.fuse.fresh h.fresh;
+                  hidden = same_hidden st im old.devs table k.scanned h.hidden;
+                  ready = ready;
+                  follows = subst (λ (d : Devs). Follows old.schema d (writes_of table) disk tasks) (sym (k.same (λ is. cc))) now;
+                  well = (h.well.0, h.well);
+                  owed = tell_owed old.table (owed.Place stage) old.schema here (writes_of table) disk tasks now ((λ last. refl), refl, tt);
+                  stage = h.stage;
+                  stages = ((λ d. refl), tt);
+                  fact_room = place_room old.table stage facts room;
+                  message_room = no_room old.messages;
+                  few_facts = place_facts old.table stage;
+                  few_messages = omega arith;
+                },
+              );
+            };
+            told = ap (map fact_of) told ∙ sym (append-nil (told_by old));
+            sent = sym (append-nil (sent_by old));
+            same = record { store = refl; table = refl; schema = refl };
+          };
+          given = λ no_. absurd no_;
+          spent = λ is. absurd cc;
+          refused = λ _. tt;
+          fallen = λ is. absurd cc;
+          counted = λ _. own_stays state old (with_all old table facts old.messages) (k.counted (λ is. cc)) (k.fuse.stopped h.fresh.unset);
           cause = λ is. absurd cc;
           only = tt;
           any_moment = leaves old table disk stands k.leave;
@@ -348,6 +407,8 @@ module _ {D : Type 0} (state : D → DiskState) (images : D → ℕ → List ℕ
               follows = h.follows;
               well = h.well;
               owed = h.owed;
+              stage = h.stage;
+              stages = h.stages;
               fact_room = no_room facts;
               message_room = no_room messages;
               few_facts = h.few_facts;

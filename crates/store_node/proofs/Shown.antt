@@ -129,6 +129,8 @@ module _ {D : Type 0} (state : D → DiskState) (images : D → ℕ → List ℕ
           follows = subst (λ (l : List Write). Follows old.schema (devs st table) l disk tasks) (sym o.asks.agenda) (subst (λ (d : Devs). Follows old.schema d (writes_of old.devs) disk tasks) (sym (o.asks.same not_disk)) h.follows);
           well = h.well;
           owed = subst (λ (l : List Write). AreOwed old.table old.owed l tasks) (sym o.asks.agenda) h.owed;
+          stage = h.stage;
+          stages = h.stages;
           fact_room = h.fact_room;
           message_room = h.message_room;
           few_facts = h.few_facts;

@@ -21,10 +21,11 @@ use Rattle.store_commit.proofs.Moments.{devs_weaker, rows_weaker, rows_rest}
 use Rattle.store_commit.proofs.Fuses.{row_leaves}
 use Rattle.step_tables.specs.StoreMoves.{StoreDisk, StoreTask, TableStore, changed}
 use Rattle.step_tables.specs.Messages.{Send}
+use Rattle.table_model.specs.declared.table_state.TableState.{TableState}
 use Rattle.step_tables.specs.Facts.{Fact}
 use Rattle.device_laws.specs.Stands.{Stands, Follows, HasRows}
 use Rattle.step_tables.specs.Travels.{send_of}
-use Rattle.store_node.specs.Due.{fact_of, told_at, sent_at, is_last_of}
+use Rattle.store_node.specs.Due.{fact_of, told_at, sent_at, state_at, is_last_of}
 use Rattle.store_node.specs.Gathered.{HasRoom}
 use Rattle.store_node.specs.declared.gathered.Gathered.{Gathered}
 use Rattle.store_node.specs.declared.told.StoreFact.{StoreFact}
@@ -42,6 +43,7 @@ pub record IsKept {D : Type 0} (old new : TableNode D) : Type 0 where
   pub sent : sent_by new ≡ sent_by old
   pub same : IsSame old new
   pub declared : new.is_declared ≡ old.is_declared
+  pub state : new.state ≡ old.state
 
 module _ {D : Type 0} (state : D → DiskState) (images : D → ℕ → List ℕ → Type 0) (only_now : (disk : FuseDisk D) (image : List ℕ) → images (inner_of disk) (behind state disk).moment image → IsImage (behind state disk).pending image) where
   abbrev st : FuseDisk D → DiskState
@@ -101,14 +103,14 @@ module _ {D : Type 0} (state : D → DiskState) (images : D → ℕ → List ℕ
           second_fit = well_now old.schema (changed disk task.change) tasks t.at.1.well.1;
         }
 
-    done_at : (table : TableDevs (FuseDisk D)) (facts : Gathered StoreFact) (messages : Gathered (Option Node × Message)) (step : Step) (is_last : Bool)
+    done_at : (table : TableDevs (FuseDisk D)) (facts : Gathered StoreFact) (messages : Gathered (Option Node × Message)) (stage : TableState) (step : Step) (is_last : Bool) → stage ≡ state_at old.owed old.state
         → commits.Works st im w ws old.devs table (Ok step) → writes_of table ≡ ws → step ≡ step_of w → KeepsUnset st old.devs table → NothingHidden table → is_last ≡ is_last_of ws
         → map fact_of facts.items.items ≡ told_by old ++ told_at old.table old.owed step is_last
         → map send_of messages.items.items ≡ sent_by old ++ sent_at old.table old.owed step
         → ((n : ℕ) → HasRoom old.facts (length (told_at old.table old.owed step is_last) + n) → HasRoom facts n)
         → ((n : ℕ) → HasRoom old.messages (length (sent_at old.table old.owed step) + n) → HasRoom messages n)
-        → Works state images (at disk (Some (task ∷ tasks))) old (record old { devs = table; facts = facts; messages = messages }) (Ok step)
-    done_at table facts messages step is_last k rest name keeps hidden last told sent fact_room message_room =
+        → Works state images (at disk (Some (task ∷ tasks))) old (record old { devs = table; facts = facts; messages = messages; state = stage }) (Ok step)
+    done_at table facts messages stage step is_last behind_is k rest name keeps hidden last told sent fact_room message_room =
         let h = t.at.1 in
         let owed = owed_w state images old disk task tasks w ws is h in
         let facts_are : task.facts ≡ told_at old.table old.owed step is_last = owed.0 ∙ sym (ap (λ (s : Step). told_at old.table old.owed s is_last) name ∙ ap (λ (b : Bool). told_at old.table old.owed (step_of w) b) last) in
@@ -122,7 +124,7 @@ module _ {D : Type 0} (state : D → DiskState) (images : D → ℕ → List ℕ
                 size = t.size;
                 spelled = t.spelled;
                 short = t.short;
-                at = (t.at.0, done_working state images old disk task tasks w ws is h table facts messages step k rest keeps hidden fact_left message_left);
+                at = (t.at.0, done_working state images old disk task tasks w ws is h table facts messages stage step behind_is k rest keeps hidden fact_left message_left);
               };
               told = told ∙ ap (λ (l : List Fact). told_by old ++ l) (sym facts_are);
               sent = sent ∙ ap (λ (l : List Send). sent_by old ++ l) (sym sends_are);
@@ -131,7 +133,7 @@ module _ {D : Type 0} (state : D → DiskState) (images : D → ℕ → List ℕ
             name ∙ step_w state images old disk task tasks w ws is h,
           );
           failed = tt;
-          counted = own_stays state old (record old { devs = table; facts = facts; messages = messages }) k.counted (keeps.stopped h.fresh.unset);
+          counted = own_stays state old (record old { devs = table; facts = facts; messages = messages; state = stage }) k.counted (keeps.stopped h.fresh.unset);
           cause = tt;
           only = tt;
           any_moment = devs_weaker st im old.devs table (IsBeforeOrAfter (devs st old.devs) w) (λ d. Stands old.schema d disk ⊎ Stands old.schema d (changed disk task.change)) k.any_moment
@@ -163,18 +165,18 @@ module _ {D : Type 0} (state : D → DiskState) (images : D → ℕ → List ℕ
   -- ---- by what stands in the agenda
 
   pub work_done : (old : TableNode D) (l : List Write) → writes_of old.devs ≡ l → (writes_of old.devs ≡ [] → ⊥) → (disk : StoreDisk) (agenda : Option (List StoreTask)) → IsTable state old (at disk agenda) → old.is_up ≡ true
-      → (table : TableDevs (FuseDisk D)) (facts : Gathered StoreFact) (messages : Gathered (Option Node × Message)) (step : Step) (is_last : Bool)
+      → (table : TableDevs (FuseDisk D)) (facts : Gathered StoreFact) (messages : Gathered (Option Node × Message)) (stage : TableState) (step : Step) (is_last : Bool) → stage ≡ state_at old.owed old.state
       → WorksOn st im old.devs table (Ok step) l → KeepsUnset st old.devs table → NothingHidden table → is_last ≡ is_last_of (writes_of table)
       → map fact_of facts.items.items ≡ told_by old ++ told_at old.table old.owed step is_last
       → map send_of messages.items.items ≡ sent_by old ++ sent_at old.table old.owed step
       → ((n : ℕ) → HasRoom old.facts (length (told_at old.table old.owed step is_last) + n) → HasRoom facts n)
       → ((n : ℕ) → HasRoom old.messages (length (sent_at old.table old.owed step) + n) → HasRoom messages n)
-      → Works state images (at disk agenda) old (record old { devs = table; facts = facts; messages = messages }) (Ok step)
-  work_done old l is some disk None t up table facts messages step is_last k keeps hidden last told sent fr mr = let no = t.at.0 in absurd cc
-  work_done old [] is some disk (Some tasks) t up table facts messages step is_last k keeps hidden last told sent fr mr = absurd (some is)
-  work_done old (w ∷ ws) is some disk (Some []) t up table facts messages step is_last k keeps hidden last told sent fr mr = absurd (subst (λ (l : List Write). Follows old.schema (devs st old.devs) l disk []) is t.at.1.follows)
-  work_done old (w ∷ ws) is some disk (Some (task ∷ tasks)) t up table facts messages step is_last k keeps hidden last told sent fr mr =
-      done_at old disk task tasks w ws is t table facts messages step is_last k.0 k.1 k.2 keeps hidden (last ∙ ap is_last_of k.1) told sent fr mr
+      → Works state images (at disk agenda) old (record old { devs = table; facts = facts; messages = messages; state = stage }) (Ok step)
+  work_done old l is some disk None t up table facts messages stage step is_last behind_is k keeps hidden last told sent fr mr = let no = t.at.0 in absurd cc
+  work_done old [] is some disk (Some tasks) t up table facts messages stage step is_last behind_is k keeps hidden last told sent fr mr = absurd (some is)
+  work_done old (w ∷ ws) is some disk (Some []) t up table facts messages stage step is_last behind_is k keeps hidden last told sent fr mr = absurd (subst (λ (l : List Write). Follows old.schema (devs st old.devs) l disk []) is t.at.1.follows)
+  work_done old (w ∷ ws) is some disk (Some (task ∷ tasks)) t up table facts messages stage step is_last behind_is k keeps hidden last told sent fr mr =
+      done_at old disk task tasks w ws is t table facts messages stage step is_last behind_is k.0 k.1 k.2 keeps hidden (last ∙ ap is_last_of k.1) told sent fr mr
 
   pub work_failed : (old : TableNode D) (l : List Write) → writes_of old.devs ≡ l → (writes_of old.devs ≡ [] → ⊥) → (disk : StoreDisk) (agenda : Option (List StoreTask)) → IsTable state old (at disk agenda) → old.is_up ≡ true
       → (mid new : TableNode D) (e : CommitFault) → WorksOn st im old.devs mid.devs (Err e) l → KeepsUnset st old.devs mid.devs → Falls state images mid new → IsKept old new → new.is_up ≡ false

@@ -15,8 +15,8 @@ use Rattle.store_commit.specs.declared.devs.TableDevs.{TableDevs}
 use Rattle.store_commit.specs.Devs.{Devs}
 use Rattle.store_commit.specs.Standing.{devs, writes_of, AreUp, AreSound, AreSynced, DevsLeave, RowsLeave}
 use Rattle.store_commit.specs.Unset.{AreFresh}
-use Rattle.step_tables.specs.StoreMoves.{StoreDisk, StoreTask, TableStore, StoreStep, StoreMove, Take, version_at}
-use Rattle.step_tables.specs.StoreMoves.{Work, Crash, Start, store_step, yours_in}
+use Rattle.step_tables.specs.StoreMoves.{StoreDisk, StoreTask, TableStore, StoreStep, StoreMove, SidePut, Take, Place}
+use Rattle.step_tables.specs.StoreMoves.{Work, Crash, Start, store_step, yours_in, version_at, new_disk}
 use Rattle.step_tables.specs.StoreMoves as moves
 use Rattle.step_tables.specs.Facts as facts
 use Rattle.step_tables.specs.Messages.{Done, FailedBefore, FailedAfter}
@@ -33,7 +33,7 @@ use Rattle.device_laws.specs.Stands.{pair_in}
 use Rattle.store_node.specs.Reading.{shown_of}
 use Rattle.store_node.specs.Node.{IsTable, IsSame, told_by, sent_by, own_faults, behind_next, LeavesEither}
 use Rattle.store_node.specs.Node.{LeavesRows, LeavesNone, HoldsNone, HasBlankDisks}
-use Rattle.store_node.specs.Node.{nothing_stored, Fits}
+use Rattle.store_node.specs.Node.{Fits}
 use Rattle.store_node.specs.Messages.{IsFor}
 use Rattle.step_tables.specs.Chunks.{is_spelled}
 use Rattle.step_tables.specs.declared.message.SyncRequest.{SyncRequest}
@@ -89,11 +89,11 @@ pub record Crashes {D : Type 0} (state : D → DiskState) (images : D → ℕ �
   pub any_moment : LeavesEither state images old new s.disk (behind_next s.disk s.agenda)
   pub rows_left : LeavesRows state images old new s.disk (behind_next s.disk s.agenda)
 
--- A table that wasn't declared is, and holds nothing; else it isn't yet. Where its disks were such, a crash at any moment
--- leaves no rows, and where it isn't declared they hold none.
+-- A table that wasn't declared is, in its first state, and holds no rows; else it isn't yet. Where its disks were such,
+-- a crash at any moment leaves no rows, and where it isn't declared they hold none.
 pub record Makes {D : Type 0} (state : D → DiskState) (images : D → ℕ → List ℕ → Type 0) (were_such : Type 0)
     (s : TableStore) (old new : TableNode D) (result : Result (Unit {0}) NodeFault) : Type 0 where
-  pub declared : OnOk result (Stays state old new (record { disk = nothing_stored; agenda = Some [] }))
+  pub declared : OnOk result (Stays state old new (record { disk = new_disk old.state; agenda = Some [] }))
   pub refused : OnErr result (Stays state old new s)
   pub counted : (IsErrOf result Disk → ⊥) → own_faults state new ≡ own_faults state old
   pub cause : IsErrOf result Disk → own_faults state old < own_faults state new
@@ -102,7 +102,8 @@ pub record Makes {D : Type 0} (state : D → DiskState) (images : D → ℕ → 
   pub left : were_such → OnErr result (HoldsNone state new)
 
 -- a first declaration, which formats the disks: of blank ones a crash leaves no rows
-abbrev pub Declares : {D : Type 0} → (D → DiskState) → (D → ℕ → List ℕ → Type 0) → TableStore → TableNode D → TableNode D
+abbrev pub Declares : {D : Type 0} → (D → DiskState) → (D → ℕ → List ℕ → Type 0) → TableStore → TableNode D
+    → TableNode D
     → Result (Unit {0}) NodeFault → Type 0
 Declares state images s old new result = Makes state images (HasBlankDisks state old) s old new result
 
@@ -116,19 +117,20 @@ pub record Recovers {D : Type 0} (state : D → DiskState) (images : D → ℕ �
   pub only : IfErr result (λ e. (e ≡ Disk) ⊎ (e ≡ Memory))
   pub rows_left : LeavesRows state images old new s.disk s.disk
 
--- A table that is declared late has recovered, since it holds nothing.
+-- A table that is declared late has recovered, since it holds no rows.
 abbrev pub late : {D : Type 0} → TableNode D → StoreStep
 late node = record {
-  store = record { disk = nothing_stored; agenda = Some [] };
+  store = record { disk = new_disk node.state; agenda = Some [] };
   answer = facts.Done;
   facts = facts.StoreRecovered node.store node.table ∷ [];
   sends = [];
 }
 
 -- A late declaration looks at the disks first. Where they hold nothing, or the record of the table alone, and not by
--- chance, as they do behind a declaration on blank disks that failed, and behind a crash inside one, a crash at any moment
--- leaves no rows, and where it isn't declared they hold none again. Of other disks nothing is said of these moments: where
--- they read as no row, no subscription, no chunk and no open entry they are opened, else they are formatted.
+-- chance, as they do behind a declaration on blank disks that failed, and behind a crash inside one, a crash at any
+-- moment leaves no rows, and where it isn't declared they hold none again. Of other disks nothing is said of these
+-- moments: where they read as no row, no subscription, no chunk and no open entry they are opened, else they are
+-- formatted.
 pub record DeclaresLate {D : Type 0} (state : D → DiskState) (images : D → ℕ → List ℕ → Type 0) (s : TableStore)
     (old new : TableNode D) (result : Result (Unit {0}) NodeFault) : Type 0 where
   pub declared : OnOk result (IsBehind state old new (late old))
@@ -277,5 +279,24 @@ pub record Delivers {D : Type 0} (state : D → DiskState) (images : D → ℕ �
   pub cause : IsErrOf result Disk → own_faults state old < own_faults state new
   pub only : IfErr result (λ e. ((version : ℕ) × (e ≡ Busy version)) ⊎ ((e ≡ Spent NUMBER_MAX)
       ⊎ ((e ≡ Disk) ⊎ (e ≡ Memory))))
+  pub any_moment : LeavesEither state images old new s.disk s.disk
+  pub rows_left : LeavesRows state images old new s.disk s.disk
+
+-- ---- what is put beside the rows
+
+abbrev pub put_step : ℕ → StoreDisk → SidePut → StoreStep
+put_step table disk put = moves.quiet disk (Some (moves.beside_task table put ∷ [])) facts.Done
+
+-- The put is begun: its one write is to be done. Each refusal has its cause, and leaves all as it was; where a disk has
+-- failed the node is down, with the disk as it was.
+pub record Places {D : Type 0} (state : D → DiskState) (images : D → ℕ → List ℕ → Type 0) (s : TableStore)
+    (put : SidePut) (old new : TableNode D) (result : Result (Unit {0}) NodeFault) : Type 0 where
+  pub placed : OnOk result (IsBehind state old new (step_at old s (Place put)))
+  pub busy : (version : ℕ) → IsErrOf result (Busy version) ↔ IsAtWork s.disk s.agenda version
+  pub refused : (IsErrOf result Disk → ⊥) → OnErr result (Stays state old new s)
+  pub fallen : IsErrOf result Disk → Stays state old new (record { disk = s.disk; agenda = None })
+  pub counted : (IsErrOf result Disk → ⊥) → own_faults state new ≡ own_faults state old
+  pub cause : IsErrOf result Disk → own_faults state old < own_faults state new
+  pub only : IfErr result (λ e. ((version : ℕ) × (e ≡ Busy version)) ⊎ ((e ≡ Disk) ⊎ (e ≡ Memory)))
   pub any_moment : LeavesEither state images old new s.disk s.disk
   pub rows_left : LeavesRows state images old new s.disk s.disk

@@ -18,16 +18,17 @@ use Rattle.store_commit.specs.Devs.{Write}
 use Rattle.store_commit.specs.Standing.{devs, writes_of, step_of, AreUp, AreSound, AreSynced, IsReady, DevsLeave}
 use Rattle.store_commit.specs.Standing.{RowsLeave, NothingHidden, AreBlank, nothing}
 use Rattle.store_commit.specs.Unset.{AreFresh}
+use Rattle.table_model.specs.declared.table_state.TableState.{TableState}
 use Rattle.step_tables.specs.Facts.{Fact}
 use Rattle.step_tables.specs.Messages.{Send}
 use Rattle.step_tables.specs.Store.{Stored}
-use Rattle.step_tables.specs.StoreMoves.{StoreDisk, StoreTask, TableStore, changed}
+use Rattle.step_tables.specs.StoreMoves.{StoreDisk, StoreTask, TableStore, changed, new_disk}
 use Rattle.step_tables.specs.declared.message.Message.{Message}
 use Rattle.step_tables.specs.declared.message.Message.TheVariants as kinds
 use Rattle.device_laws.specs.Stands.{Stands, Follows, HasRows}
 use Rattle.step_tables.specs.Travels.{send_of}
 use Rattle.store_node.specs.Devices.{no_rows, HoldNone}
-use Rattle.store_node.specs.Due.{fact_of, told_at, sent_at, is_last_of}
+use Rattle.store_node.specs.Due.{fact_of, told_at, sent_at, state_at, is_last_of}
 use Rattle.store_node.specs.Gathered.{HasRoom}
 use Rattle.store_node.specs.declared.node.TableNode.{TableNode}
 use Rattle.store_node.specs.declared.owed.Owed.{Owed}
@@ -47,6 +48,12 @@ AreOwed table o [] [] = Unit {0}
 AreOwed table o (w ∷ ws) (task ∷ tasks) = (task.facts ≡ told_at table o (step_of w) (is_last_of ws))
     × (task.sends ≡ sent_at table o (step_of w)) × AreOwed table o ws tasks
 AreOwed table o ws tasks = ⊥
+
+-- These tasks make of the table's state what is owed.
+abbrev pub PutStates : Owed → List StoreTask → Type 0
+PutStates o [] = Unit {0}
+PutStates o (task ∷ tasks) = ((disk : StoreDisk) → (changed disk task.change).state ≡ state_at o disk.state)
+    × PutStates o tasks
 
 -- how many facts these tasks tell, and how many messages they send
 abbrev pub facts_in : List StoreTask → ℕ
@@ -71,9 +78,6 @@ GoesWell schema disk (task ∷ tasks) = AreFit schema disk.items × GoesWell sch
 
 -- ---- the node
 
-abbrev pub nothing_stored : StoreDisk
-nothing_stored = record { items = []; pending = None; left = [] }
-
 -- how often the three disks themselves have failed, the stops of their fuses apart
 abbrev pub own_faults : {D : Type 0} → (D → DiskState) → TableNode D → ℕ
 own_faults state node =
@@ -81,8 +85,8 @@ own_faults state node =
     + ((state (inner_of (disk_of (rows.vault_of node.devs.rows)))).faults
     + (state (inner_of (disk_of (logs.vault_of node.devs.log)))).faults)
 
--- Up: the devices hold this disk, and behind each of their writes what the tasks make of it; and there is room for what
--- the tasks tell and send.
+-- Up: the devices hold this disk, and behind each of their writes what the tasks make of it; the state is the disk's,
+-- and behind each what is owed; and there is room for what the tasks tell and send.
 pub record IsWorking {D : Type 0} (state : D → DiskState) (node : TableNode D) (disk : StoreDisk)
     (tasks : List StoreTask) : Type 0 where
   pub declared : node.is_declared ≡ true
@@ -93,6 +97,8 @@ pub record IsWorking {D : Type 0} (state : D → DiskState) (node : TableNode D)
   pub follows : Follows node.schema (devs (behind state) node.devs) (writes_of node.devs) disk tasks
   pub well : GoesWell node.schema disk tasks
   pub owed : AreOwed node.table node.owed (writes_of node.devs) tasks
+  pub stage : node.state ≡ disk.state
+  pub stages : PutStates node.owed tasks
   pub fact_room : HasRoom node.facts (facts_in tasks)
   pub message_room : HasRoom node.messages (sends_in tasks)
   pub few_facts : facts_in tasks ≤ 1
@@ -107,7 +113,7 @@ pub record IsResting {D : Type 0} (state : D → DiskState) (node : TableNode D)
   pub sound : node.is_declared ≡ true → AreSound (behind state) node.devs
   pub stands : node.is_declared ≡ true → Stands node.schema (devs (behind state) node.devs) disk
   pub fit : AreFit node.schema disk.items
-  pub nothing : node.is_declared ≡ false → disk ≡ nothing_stored
+  pub nothing : node.is_declared ≡ false → disk ≡ new_disk node.state
 
 abbrev pub IsAt : {D : Type 0} → (D → DiskState) → TableNode D → StoreDisk → Option (List StoreTask) → Type 0
 IsAt state node disk None = (node.is_up ≡ false) × IsResting state node disk
@@ -150,21 +156,22 @@ LeavesRows state images old new a b =
 abbrev pub HasBlankDisks : {D : Type 0} → (D → DiskState) → TableNode D → Type 0
 HasBlankDisks state node = AreBlank (behind state) node.devs
 
--- no row: none at all, or those of a table that is declared and has none
-abbrev pub HasNoRows : Schema → TableData → Type 0
-HasNoRows schema held = (held ≡ nothing_held) ⊎ HasRows schema held nothing_stored
+-- no row: none at all, or those of a table that is declared in this state and has none
+abbrev pub HasNoRows : Schema → TableState → TableData → Type 0
+HasNoRows schema stage held = (held ≡ nothing_held) ⊎ HasRows schema held (new_disk stage)
 
 -- A crash at any moment since the old node leaves devices with no chunk, no row and no open entry: nothing, or the
 -- record of the table alone.
 pub record LeavesNone {D : Type 0} (state : D → DiskState) (images : D → ℕ → List ℕ → Type 0)
     (old new : TableNode D) : Type 0 where
   pub any_moment : DevsLeave (behind state) (λ f. images (inner_of f)) old.devs new.devs
-      (IsEither nothing (no_rows old.schema))
-  pub rows_left : RowsLeave (behind state) (λ f. images (inner_of f)) old.devs new.devs (HasNoRows old.schema)
+      (IsEither nothing (no_rows old.schema old.state))
+  pub rows_left : RowsLeave (behind state) (λ f. images (inner_of f)) old.devs new.devs
+      (HasNoRows old.schema old.state)
 
 -- Its disks hold nothing, or the record of the table alone, and not by chance, and all of it is on them.
 abbrev pub HoldsNone : {D : Type 0} → (D → DiskState) → TableNode D → Type 0
-HoldsNone state node = HoldNone (behind state) node.schema node.devs
+HoldsNone state node = HoldNone (behind state) node.schema node.state node.devs
 
 -- the same table, of the same Store
 pub record IsSame {D : Type 0} (old new : TableNode D) : Type 0 where

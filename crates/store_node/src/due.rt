@@ -1,17 +1,39 @@
 //! What a write tells and sends once it is done.
 ghost use Rattle.std.specs.Prelude.{◌≡◌, map, option_to_list};
 ghost use Rattle.step_tables.specs.Travels.{send_of};
-ghost use Rattle.store_node.specs.Due.{fact_of, told_at, sent_at, facts_found};
+ghost use Rattle.step_tables.specs.StoreMoves.{told_beside, PutState};
+ghost use Rattle.store_node.specs.Due.{fact_of, told_at, sent_at, facts_found, state_at};
 
 use crate::owed::Owed;
 use crate::told::StoreFact;
 use stab_base::{Step, TableNo};
 use step_tables::{Addressed, Message, Outcome, SyncResponse};
 use store_commit::Recovery;
-use table_model::Entry;
+use table_model::{Entry, TableState};
+
+// What the put of a table's state tells.
+fn placed(table: TableNo, state: TableState) -> Option<StoreFact>
+    ensures { map fact_of (option_to_list result) ≡ told_beside table (PutState state) }
+{
+    match state {
+        TableState::Draft => None,
+        TableState::Live => Some(StoreFact::Made { table }),
+        TableState::Dropped => Some(StoreFact::Unmade { table }),
+    }
+}
+
+/// The table's state behind a write, where it was this one.
+pub(crate) fn state_behind(owed: &Owed, state: TableState) -> TableState
+    ensures { result ≡ state_at owed.now state }
+{
+    match owed {
+        Owed::Place { state } => *state,
+        _ => state,
+    }
+}
 
 /// What a write tells: the put of a row that its entry was accepted, the last write of a start that the table has
-/// recovered.
+/// recovered, the put of the table's state what it is now.
 pub(crate) fn fact_due(table: TableNo, owed: &Owed, step: Step, is_last: bool) -> Option<StoreFact>
     ensures { map fact_of (option_to_list result) ≡ told_at table owed.now step is_last }
 {
@@ -34,6 +56,7 @@ pub(crate) fn fact_due(table: TableNo, owed: &Owed, step: Step, is_last: bool) -
                 None
             }
         }
+        Owed::Place { state } => placed(table, *state),
     }
 }
 

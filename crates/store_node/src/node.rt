@@ -13,22 +13,23 @@ ghost use Rattle.row_store.specs.Standing as rows;
 ghost use Rattle.status_log.specs.Standing as logs;
 ghost use Rattle.store_commit.specs.Standing.{writes_of};
 ghost use Rattle.step_tables.specs.Chunks.{is_spelled};
-ghost use Rattle.step_tables.specs.StoreMoves.{TableStore, answered, asked, torn_answered};
+ghost use Rattle.step_tables.specs.StoreMoves.{TableStore, PutState, answered, asked, torn_answered, new_disk};
 ghost use Rattle.step_tables.specs.Travels.{send_of, torn_of};
 ghost use Rattle.store_node.specs.Due.{fact_of};
 ghost use Rattle.store_node.specs.Kept.{AreKept};
-ghost use Rattle.store_node.specs.Node.{IsTable, IsNode, IsSame, told_by, sent_by, nothing_stored, has_task};
+ghost use Rattle.store_node.specs.Node.{IsTable, IsNode, IsSame, told_by, sent_by, has_task};
 ghost use Rattle.store_node.specs.Calls.{Works, Crashes, Declares, DeclaresLate, Recovers, Starts, Falls, Fell};
-ghost use Rattle.store_node.specs.Calls.{Answers, Delivers, Shows, Gives, IsSpentOn, IsAtWork};
+ghost use Rattle.store_node.specs.Calls.{Answers, Delivers, Places, Shows, Gives, IsSpentOn, IsAtWork, put_step};
 ghost use Rattle.store_node.specs.Fault.{fault_of};
 ghost use Rattle.store_node.specs.Halts.{Halts};
 ghost use Rattle.store_node.specs.Taking.{refused_by, step_for};
 ghost use Rattle.store_node.specs.Update.{request_of, pull_of};
 
-use crate::devices::{begin_start, make_table, remake_table};
-use crate::due::{answer_due, fact_due, found};
+use crate::devices::{make_table, remake_table, resume};
+use crate::due::{answer_due, fact_due, found, state_behind};
 use crate::fault::NodeFault;
 use crate::gathered::Gathered;
+use crate::live::number_of;
 use crate::messages::{entry, is_taken, response};
 use crate::owed::Owed;
 use crate::pulling::{pull, pull_torn};
@@ -42,6 +43,7 @@ use stab_base::{Names, Node, RowId, Step, StoreNo, TableNo, Version};
 use std::alloc::Global;
 use step_tables::{Addressed, Message, PullRequest, SyncRequest, TornRowRequest};
 use store_commit::{CommitFault, TableDevs};
+use table_model::TableState;
 
 /// What a table at the Store has to send and to tell, in order.
 #[derive(Debug, Drop)]
@@ -59,6 +61,8 @@ pub struct TableNode<D: Disk> {
     pub(crate) store: StoreNo,
     pub(crate) table: TableNo,
     pub(crate) schema: Schema,
+    // in which it is to be declared, or in which it is
+    pub(crate) state: TableState,
     pub(crate) is_declared: bool,
     pub(crate) is_up: bool,
     pub(crate) devs: TableDevs<FuseDisk<D>>,
@@ -69,12 +73,13 @@ pub struct TableNode<D: Disk> {
 }
 
 impl<D: Disk + Drop> TableNode<D> {
-    /// A table that is down and not declared. What its disks hold doesn't matter.
+    /// A table that is down and not declared, and is to be declared in this state. What its disks hold doesn't matter.
     pub fn new(
         alloc: Global,
         store: StoreNo,
         table: TableNo,
         schema: Schema,
+        state: TableState,
         chunk_disk: D,
         row_disk: D,
         log_disk: D,
@@ -82,7 +87,7 @@ impl<D: Disk + Drop> TableNode<D> {
         requires size { 0 < schema.chunk }
         requires spelled { HasSchemaSpelling schema }
         requires short { length (table_payload schema 2) ≤ payload_most }
-        ensures at { IsTable D.state result (record { disk = nothing_stored; agenda = None }) }
+        ensures at { IsTable D.state result (record { disk = new_disk state; agenda = None }) }
         ensures declared { result.is_declared ≡ false }
         ensures down { result.is_up ≡ false }
         ensures told { told_by result ≡ [] }
@@ -90,6 +95,7 @@ impl<D: Disk + Drop> TableNode<D> {
         ensures store { result.store ≡ store }
         ensures table { result.table ≡ table }
         ensures schema { result.schema ≡ schema }
+        ensures state { result.state ≡ state }
         ensures chunks { inner_of (disk_of (chunks.vault_of result.devs.chunks)) ≡ chunk_disk }
         ensures rows { inner_of (disk_of (rows.vault_of result.devs.rows)) ≡ row_disk }
         ensures log { inner_of (disk_of (logs.vault_of result.devs.log)) ≡ log_disk }
@@ -98,6 +104,7 @@ impl<D: Disk + Drop> TableNode<D> {
             store,
             table,
             schema,
+            state,
             is_declared: false,
             is_up: false,
             devs: TableDevs::new(
@@ -150,6 +157,14 @@ impl<D: Disk + Drop> TableNode<D> {
         ensures { result.now ≡ self.now.schema.name }
     {
         self.schema.name.as_slice()
+    }
+
+    /// The state of the table.
+    pub fn state(&self) -> TableState
+        requires up { self.now.is_up ≡ true }
+        ensures { (s : TableStore) → IsTable D.state self.now s → result ≡ s.disk.state }
+    {
+        self.state
     }
 
     /// The Store that keeps the table from now on; nothing else changes.
@@ -250,6 +265,7 @@ impl<D: Disk + Drop> TableNode<D> {
         ensures falls { Falls D.state D.images self.old self.new }
         ensures down { self.new.is_up ≡ false }
         ensures declared { self.new.is_declared ≡ self.old.is_declared }
+        ensures state { self.new.state ≡ self.old.state }
         ensures same { IsSame self.old self.new }
         ensures facts { self.new.facts ≡ self.old.facts }
         ensures messages { self.new.messages ≡ self.old.messages }
@@ -273,8 +289,8 @@ impl<D: Disk + Drop> TableNode<D> {
         NodeFault::from(fault)
     }
 
-    /// Makes the node's disks those of a table with no rows, whatever they held. The node is then up. Where a disk
-    /// failed or memory was refused it is still down, and not declared.
+    /// Makes the node's disks those of a table with no rows, in its first state, whatever they held. The node is then
+    /// up. Where a disk failed or memory was refused it is still down, and not declared.
     pub fn declare(&mut self) -> Result<(), NodeFault>
         requires node { IsNode D.state self.old }
         requires undeclared { self.old.is_declared ≡ false }
@@ -282,9 +298,10 @@ impl<D: Disk + Drop> TableNode<D> {
             → Declares D.state D.images s self.old self.new result }
         ensures node { IsNode D.state self.new }
         ensures kept { OnErr result (self.new.is_declared ≡ self.old.is_declared) }
+        ensures state { self.new.state ≡ self.old.state }
         ensures up { OnOk result (self.new.is_up ≡ true) }
     {
-        match make_table(&mut self.devs, &self.schema) {
+        match make_table(&mut self.devs, &self.schema, self.state) {
             Ok(()) => {
                 self.is_declared = true;
                 self.is_up = true;
@@ -309,10 +326,11 @@ impl<D: Disk + Drop> TableNode<D> {
         ensures up { OnOk result (self.new.is_up ≡ true) }
     {
         self.facts.reserve(2)?;
-        match begin_start(&mut self.devs) {
-            Ok(recovery) => {
-                let fact = found(self.table, &recovery);
+        match resume(&mut self.devs) {
+            Ok(resumed) => {
+                let fact = found(self.table, &resumed.recovery);
                 self.facts.put_if(fact);
+                self.state = resumed.state;
                 self.is_up = true;
                 self.owed = Owed::Start { store: self.store };
                 Ok(())
@@ -335,7 +353,7 @@ impl<D: Disk + Drop> TableNode<D> {
         ensures up { OnOk result (self.new.is_up ≡ true) }
     {
         self.facts.reserve(1)?;
-        match remake_table(&mut self.devs, &self.schema) {
+        match remake_table(&mut self.devs, &self.schema, self.state) {
             Ok(()) => {
                 self.is_declared = true;
                 self.is_up = true;
@@ -395,6 +413,7 @@ impl<D: Disk + Drop> TableNode<D> {
                 self.facts.put_if(fact);
                 let answer = answer_due(self.table, &self.owed, step);
                 self.messages.put_if(answer);
+                self.state = state_behind(&self.owed, self.state);
                 Ok(step)
             }
             Err(_) => {
@@ -532,6 +551,45 @@ impl<D: Disk + Drop> TableNode<D> {
             Message::SyncResponse(_) | Message::PullResponse(_) => Ok(()),
             Message::TornRowResponse(_) => Ok(()),
         }
+    }
+
+    // Takes the put of the table's state on.
+    fn place(&mut self, state: TableState) -> Result<(), NodeFault>
+        requires node { IsNode D.state self.old }
+        requires up { self.old.is_up ≡ true }
+        requires idle { writes_of self.old.devs ≡ [] }
+        ensures answers { (s : TableStore) → IsTable D.state self.old s
+            → Answers D.state D.images s (put_step self.old.table s.disk (PutState state)) ⊥ self.old self.new result }
+        ensures declared { self.new.is_declared ≡ self.old.is_declared }
+    {
+        self.facts.reserve(1)?;
+        match self.devs.begin_table(&self.schema, number_of(state)) {
+            Ok(()) => {
+                self.owed = Owed::Place { state };
+                Ok(())
+            }
+            Err(fault) => Err(self.fail(fault)),
+        }
+    }
+
+    /// Begins to put the table into this state, in one write. It tells that the table is live, or dropped, once that
+    /// is done.
+    ///
+    /// `Busy` where writes are still to be done. `Disk` where a disk failed: the node is then down.
+    pub fn place_state(&mut self, state: TableState) -> Result<(), NodeFault>
+        requires node { IsNode D.state self.old }
+        requires up { self.old.is_up ≡ true }
+        ensures places { (s : TableStore) → IsTable D.state self.old s
+            → Places D.state D.images s (PutState state) self.old self.new result }
+        ensures node { IsNode D.state self.new }
+        ensures declared { self.new.is_declared ≡ self.old.is_declared }
+    {
+        if !self.devs.idle() {
+            return Err(NodeFault::Busy {
+                with: self.devs.at_work(),
+            });
+        }
+        self.place(state)
     }
 
     /// Crashes the node: of the disk of the next write the first `calls` calls pass, and a write that follows lands its

@@ -1,5 +1,5 @@
 use stab_base::{Node, StoreNo};
-use table_model::Entry;
+use table_model::{Entry, TableState};
 
 /// What the writes that are to be done tell and send.
 #[derive(Debug, Clone, Copy, PartialEq, Eq)]
@@ -9,4 +9,6 @@ pub(crate) enum Owed {
     Update { to: Node, entry: Entry },
     /// The table has recovered at this Store, which started it.
     Start { store: StoreNo },
+    /// The table is in this state.
+    Place { state: TableState },
 }

@@ -12,4 +12,8 @@ pub enum StoreFact {
     Back { table: TableNo, version: Version },
     /// The last write of a start is done.
     Recovered { store: StoreNo, table: TableNo },
+    /// The table is live.
+    Made { table: TableNo },
+    /// The table is dropped.
+    Unmade { table: TableNo },
 }

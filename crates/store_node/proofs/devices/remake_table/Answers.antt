@@ -14,8 +14,8 @@ returns-in_err-clear g c =
     let schema = c.args.schema.now in
     let p = err_from_is_err_and c.from_residual.result c.from_residual.ensures.1 in
     let k = c.in_err-clear.ensures in
-    rw (p.1, p.2) (not_made s images only_now schema (HoldNone s schema old) old c.clear.new.self c.in_err-clear.field-0.0 k.fuse (record { cause = k.cause.cause; only = k.cause.only })
-    (λ none. held_some s images only_now schema old c.clear.new.self none.held (k.leave (none_bare s schema old c.requires.up none))))
+    rw (p.1, p.2) (not_made s images only_now schema c.args.state (HoldNone s schema c.args.state old) old c.clear.new.self c.in_err-clear.field-0.0 k.fuse (record { cause = k.cause.cause; only = k.cause.only })
+    (λ none. held_some s images only_now schema c.args.state old c.clear.new.self none.held (k.leave (none_bare s schema c.args.state old c.requires.up none))))
 
 pub returns : goal.returns
 returns g c =
@@ -26,6 +26,6 @@ returns g c =
     let mid = c.clear.new.self in
     let schema = c.args.schema.now in
     let k = c.in_ok-clear.ensures in
-    made s images only_now schema (HoldNone s schema old) old mid c.put_missing.new.table c.put_missing.result k.fuse (record { cause = k.cause.cause; only = k.cause.only }) k.hidden (bare_put s schema mid k.bare)
-    (λ none. still_either s schema old mid (k.same (none_bare s schema old c.requires.up none)) none.held)
-    (λ none. held_some s images only_now schema old mid none.held (k.leave (none_bare s schema old c.requires.up none))) c.put_missing.ensures
+    made s images only_now schema c.args.state (HoldNone s schema c.args.state old) old mid c.put_missing.new.table c.put_missing.result k.fuse (record { cause = k.cause.cause; only = k.cause.only }) k.hidden (bare_put s schema c.args.state mid k.bare)
+    (λ none. still_either s schema c.args.state old mid (k.same (none_bare s schema c.args.state old c.requires.up none)) none.held)
+    (λ none. held_some s images only_now schema c.args.state old mid none.held (k.leave (none_bare s schema c.args.state old c.requires.up none))) c.put_missing.ensures

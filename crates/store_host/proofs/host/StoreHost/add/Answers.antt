@@ -3,7 +3,7 @@ use Rattle.std.proofs.lemmas.Result.{on_ok_weaker}
 use Rattle.ring_map.specs.Owners.{owner_on}
 use Rattle.disk_trait.specs.Fuse.{inner_of}
 use Rattle.store_host.specs.Holds.{IsHosted}
-use Rattle.store_host.specs.Steps.{new_table}
+use Rattle.world_tables.specs.World.{new_hosted}
 use Rattle.store_host.proofs.Lefts.{added_still}
 use Rattle.store_host.proofs.Blanks.{none_added, is_added}
 use Rattle.store_host.proofs.Moving.{added_faults, other_faults}
@@ -12,14 +12,14 @@ use Rattle.store_host.proofs.host.StoreHost.add.Goals as goal
 pub returns-in-Ok-clause-added : goal.returns-in-Ok-clause-added
 returns-in-Ok-clause-added g c w h =
     let own = c.owner_in-store.ensures w.stores h.ring ∙ ap (λ (name : List ℕ). owner_on name w.stores) c.as_slice.ensures in
-    c.put.ensures.put w c.args.schema true h (subst (λ (n : ℕ). IsHosted g.D.Disk.state n (Some c.args.schema) c.args.table (new_table true) c.declare.new.self) own
-    (c.in-Ok.ensures.declared c.owner_in-store.result (Some c.args.schema) c.args.table c.new-hosted.ensures.hosted))
+    c.put.ensures.put w c.args.schema c.args.state true h (subst (λ (n : ℕ). IsHosted g.D.Disk.state n (Some c.args.schema) c.args.table (new_hosted c.args.state true) c.declare.new.self) own
+    (c.in-Ok.ensures.declared c.owner_in-store.result (Some c.args.schema) c.args.table c.args.state c.new-hosted.ensures.hosted))
 
 pub returns-in_ok-put-in-Err-Disk-clause-failed : goal.returns-in_ok-put-in-Err-Disk-clause-failed
 returns-in_ok-put-in-Err-Disk-clause-failed g c w h failed =
     let own = c.owner_in-store.ensures w.stores h.ring ∙ ap (λ (name : List ℕ). owner_on name w.stores) c.as_slice.ensures in
-    c.in_ok-put-in-Err-Disk.ensures.put w c.args.schema false h (subst (λ (n : ℕ). IsHosted g.D.Disk.state n (Some c.args.schema) c.args.table (new_table false) c.declare.new.self) own
-    (c.in-Err-Disk.ensures.refused c.owner_in-store.result (Some c.args.schema) c.args.table c.new-hosted.ensures.hosted))
+    c.in_ok-put-in-Err-Disk.ensures.put w c.args.schema c.args.state false h (subst (λ (n : ℕ). IsHosted g.D.Disk.state n (Some c.args.schema) c.args.table (new_hosted c.args.state false) c.declare.new.self) own
+    (c.in-Err-Disk.ensures.refused c.owner_in-store.result (Some c.args.schema) c.args.table c.args.state c.new-hosted.ensures.hosted))
 
 pub returns-in_ok-put-in-Err-Disk-clause-cause : goal.returns-in_ok-put-in-Err-Disk-clause-cause
 returns-in_ok-put-in-Err-Disk-clause-cause g c failed =
@@ -60,6 +60,6 @@ returns-in-Ok-clause-blank g c blank =
     let new = c.new-hosted.ensures in
     let declare = c.in-Ok.ensures in
     on_ok_weaker c.put.result
-    (λ u it there. none_added g.D.Disk.state g.D.Disk.images c.declare.new.self it c.new-hosted.result.node.devs c.new-hosted.result.node.schema c.args.row_disk
-    (is_added c.args.self.now.tables c.put.new.self.tables c.args.table c.declare.new.self it u there) new.rows declare.schema (declare.blank (new.blank blank)))
+    (λ u it there. none_added g.D.Disk.state g.D.Disk.images c.declare.new.self it c.new-hosted.result.node.devs c.new-hosted.result.node.schema c.new-hosted.result.node.state c.args.row_disk
+    (is_added c.args.self.now.tables c.put.new.self.tables c.args.table c.declare.new.self it u there) new.rows declare.schema declare.state (declare.blank (new.blank blank)))
     c.put.ensures.tables

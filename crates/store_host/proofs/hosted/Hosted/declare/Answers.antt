@@ -1,15 +1,15 @@
 use Rattle.std.proofs.Common.{false}
-use Rattle.store_host.specs.Steps.{new_table}
+use Rattle.world_tables.specs.World.{new_hosted}
 use Rattle.store_host.proofs.Hosting.{made_here, not_made, made_blank, made_schema}
 use Rattle.store_host.proofs.hosted.Hosted.declare.Goals as goal
 
 pub returns-clause-declared : goal.returns-clause-declared
-returns-clause-declared g c store declared table h =
-    made_here g.D.Disk.state store declared table c.args.self.now h g.D.Disk.images c.declare.new.self c.declare.result (c.declare.ensures.declares (new_table false).store h.node) c.declare.ensures.up
+returns-clause-declared g c store declared table stage h =
+    made_here g.D.Disk.state store declared table stage c.args.self.now h g.D.Disk.images c.declare.new.self c.declare.result (c.declare.ensures.declares (new_hosted stage false).store h.node) c.declare.ensures.up
 
 pub returns-clause-refused : goal.returns-clause-refused
-returns-clause-refused g c store declared table h =
-    not_made g.D.Disk.state store declared table c.args.self.now h g.D.Disk.images c.declare.new.self c.declare.result (c.declare.ensures.declares (new_table false).store h.node) c.declare.ensures.kept
+returns-clause-refused g c store declared table stage h =
+    not_made g.D.Disk.state store declared table stage c.args.self.now h g.D.Disk.images c.declare.new.self c.declare.result (c.declare.ensures.declares (new_hosted stage false).store h.node) c.declare.ensures.kept
 
 pub returns-clause-cause : goal.returns-clause-cause
 returns-clause-cause g c =

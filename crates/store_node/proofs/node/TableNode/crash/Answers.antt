@@ -32,7 +32,7 @@ returns-clause-crashes g c s t =
     stopped mid c.fall.new.self c.args.calls c.args.pick c.work.result c.stop_after.ensures.stops c.stop_after.ensures.same
     (c.stop_after.ensures.rows_left up (ready_synced g.D.Disk.state g.D.Disk.images old.devs (writes_of old.devs) ready)
     (ready_sound g.D.Disk.state g.D.Disk.images old.devs (writes_of old.devs) ready)) works c.work.ensures.once f.falls
-    (record { told = ap (λ x. map fact_of x.items.items) f.facts; sent = ap (λ x. map send_of x.items.items) f.messages; same = record { store = f.same.store; table = f.same.table; schema = f.same.schema }; declared = f.declared }) f.down
+    (record { told = ap (λ x. map fact_of x.items.items) f.facts; sent = ap (λ x. map send_of x.items.items) f.messages; same = record { store = f.same.store; table = f.same.table; schema = f.same.schema }; declared = f.declared; state = f.state }) f.down
 
 pub returns-clause-node : goal.returns-clause-node
 returns-clause-node g c = let n = c.requires.node in crashes_node g.D.Disk.state g.D.Disk.images c.args.calls n.0 c.args.self.now _ (returns-clause-crashes g c n.0 n.1)

@@ -27,7 +27,7 @@ returns-in-Err-clause-declares g c s t =
     let f = c.fall.ensures in
     subst (λ (f : NodeFault). Declares g.D.Disk.state g.D.Disk.images s old c.fall.new.self (Err f)) (sym c.from.ensures)
     (declare_failed g.D.Disk.state g.D.Disk.images (HasBlankDisks g.D.Disk.state old) old s.disk s.agenda t c.requires.undeclared (record old { devs = c.make_table.new.table }) c.fall.new.self c.in-Err.fault c.in-Err.ensures f.falls
-    (record { told = ap (λ x. map fact_of x.items.items) f.facts; sent = ap (λ x. map send_of x.items.items) f.messages; same = record { store = f.same.store; table = f.same.table; schema = f.same.schema }; declared = f.declared }) f.down)
+    (record { told = ap (λ x. map fact_of x.items.items) f.facts; sent = ap (λ x. map send_of x.items.items) f.messages; same = record { store = f.same.store; table = f.same.table; schema = f.same.schema }; declared = f.declared; state = f.state }) f.down)
 
 pub returns-in-Ok-clause-node : goal.returns-in-Ok-clause-node
 returns-in-Ok-clause-node g c = let n = c.requires.node in declares_node g.D.Disk.state g.D.Disk.images n.0 c.args.self.now _ (Ok tt) (returns-in-Ok-clause-declares g c n.0 n.1)

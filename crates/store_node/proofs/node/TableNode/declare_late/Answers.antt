@@ -52,4 +52,4 @@ returns-in-Err-clause-declares g c s t =
     subst (λ (f : NodeFault). DeclaresLate st images s old c.fall.new.self (Err f)) (sym c.from.ensures)
     (late_failed st images (λ d image left. g.met.D.Disk.only_now (inner_of d) image left) old c.reserve.new.self c.fall.new.self s _ c.reserve.ensures.same
     (declare_failed st images (HoldsNone st old) reserved s.disk s.agenda u c.requires.undeclared (record reserved { devs = c.remake_table.new.table }) c.fall.new.self c.in-Err.fault c.in-Err.ensures f.falls
-    (record { told = ap (λ x. map fact_of x.items.items) f.facts; sent = ap (λ x. map send_of x.items.items) f.messages; same = record { store = f.same.store; table = f.same.table; schema = f.same.schema }; declared = f.declared }) f.down))
+    (record { told = ap (λ x. map fact_of x.items.items) f.facts; sent = ap (λ x. map send_of x.items.items) f.messages; same = record { store = f.same.store; table = f.same.table; schema = f.same.schema }; declared = f.declared; state = f.state }) f.down))

@@ -9,7 +9,7 @@ pub returns-then-self-clause-halts : goal.returns-then-self-clause-halts
 returns-then-self-clause-halts g c s t =
     let f = c.fall.ensures in
     halts_up g.D.Disk.state g.D.Disk.images (λ d image left. g.met.D.Disk.only_now (inner_of d) image left) c.args.self.now c.fall.new.self f.falls
-    (record { told = ap (λ x. map fact_of x.items.items) f.facts; sent = ap (λ x. map send_of x.items.items) f.messages; same = f.same; declared = f.declared }) f.down s s.agenda refl t c.if-self.true
+    (record { told = ap (λ x. map fact_of x.items.items) f.facts; sent = ap (λ x. map send_of x.items.items) f.messages; same = f.same; declared = f.declared; state = f.state }) f.down s s.agenda refl t c.if-self.true
 
 pub returns-else-self-clause-halts : goal.returns-else-self-clause-halts
 returns-else-self-clause-halts g c s t = halts_down g.D.Disk.state g.D.Disk.images (λ d image left. g.met.D.Disk.only_now (inner_of d) image left) c.args.self.now s.disk s.agenda t c.if-self.false

@@ -18,20 +18,20 @@ returns-in_err-reserve-clause-recovers g c s t =
     rw (p.1, p.2) (recover_short g.D.Disk.state g.D.Disk.images (λ d image left. g.met.D.Disk.only_now (inner_of d) image left) c.args.self.now c.reserve.new.self s.disk s.agenda
     c.reserve.ensures.same t c.requires.declared c.requires.down)
 
-pub begin_start-requires-clause-up : goal.begin_start-requires-clause-up
-begin_start-requires-clause-up g c = let n = c.requires.node in (rests_down g.D.Disk.state g.D.Disk.images c.args.self.now n.0.disk n.0.agenda n.1 c.requires.declared c.requires.down).up
+pub resume-requires-clause-up : goal.resume-requires-clause-up
+resume-requires-clause-up g c = let n = c.requires.node in (rests_down g.D.Disk.state g.D.Disk.images c.args.self.now n.0.disk n.0.agenda n.1 c.requires.declared c.requires.down).up
 
-pub begin_start-requires-clause-synced : goal.begin_start-requires-clause-synced
-begin_start-requires-clause-synced g c = let n = c.requires.node in (rests_down g.D.Disk.state g.D.Disk.images c.args.self.now n.0.disk n.0.agenda n.1 c.requires.declared c.requires.down).synced
+pub resume-requires-clause-synced : goal.resume-requires-clause-synced
+resume-requires-clause-synced g c = let n = c.requires.node in (rests_down g.D.Disk.state g.D.Disk.images c.args.self.now n.0.disk n.0.agenda n.1 c.requires.declared c.requires.down).synced
 
-pub begin_start-requires-clause-sound : goal.begin_start-requires-clause-sound
-begin_start-requires-clause-sound g c = let n = c.requires.node in (rests_down g.D.Disk.state g.D.Disk.images c.args.self.now n.0.disk n.0.agenda n.1 c.requires.declared c.requires.down).sound
+pub resume-requires-clause-sound : goal.resume-requires-clause-sound
+resume-requires-clause-sound g c = let n = c.requires.node in (rests_down g.D.Disk.state g.D.Disk.images c.args.self.now n.0.disk n.0.agenda n.1 c.requires.declared c.requires.down).sound
 
-pub begin_start-requires-clause-idle : goal.begin_start-requires-clause-idle
-begin_start-requires-clause-idle g c = let n = c.requires.node in (rests_down g.D.Disk.state g.D.Disk.images c.args.self.now n.0.disk n.0.agenda n.1 c.requires.declared c.requires.down).idle
+pub resume-requires-clause-idle : goal.resume-requires-clause-idle
+resume-requires-clause-idle g c = let n = c.requires.node in (rests_down g.D.Disk.state g.D.Disk.images c.args.self.now n.0.disk n.0.agenda n.1 c.requires.declared c.requires.down).idle
 
-pub begin_start-requires-clause-whole : goal.begin_start-requires-clause-whole
-begin_start-requires-clause-whole g c = let n = c.requires.node in whole_down g.D.Disk.state g.D.Disk.images c.args.self.now n.0.disk n.0.agenda n.1 c.requires.declared c.requires.down
+pub resume-requires-clause-whole : goal.resume-requires-clause-whole
+resume-requires-clause-whole g c = let n = c.requires.node in whole_down g.D.Disk.state g.D.Disk.images c.args.self.now n.0.disk n.0.agenda n.1 c.requires.declared c.requires.down
 
 pub put_if-requires : goal.put_if-requires
 put_if-requires g c =
@@ -43,14 +43,14 @@ returns-in-Ok-clause-recovers g c s t =
     let old = c.args.self.now in
     let o = c.found-fact.result in
     let room = c.put_if.ensures.room 1 (room_two c.reserve.new.self (length (option_to_list o)) (one_at_most o) c.in_ok-reserve.ensures.room) in
-    let told = put_told fact_of c.reserve.new.self.items.items c.put_if.new.self.items.items o (facts_found old.table c.in-Ok.recovery) c.put_if.ensures.added c.found-fact.ensures ∙ ap (λ l. map fact_of l ++ facts_found old.table c.in-Ok.recovery) c.reserve.ensures.same in
-    recover_done g.D.Disk.state g.D.Disk.images old c.reserve.new.self c.put_if.new.self s.disk s.agenda t c.requires.declared c.requires.down c.begin_start.new.table c.in-Ok.recovery c.in-Ok.ensures room told
+    let told = put_told fact_of c.reserve.new.self.items.items c.put_if.new.self.items.items o (facts_found old.table c.in-Ok.resumed.recovery) c.put_if.ensures.added c.found-fact.ensures ∙ ap (λ l. map fact_of l ++ facts_found old.table c.in-Ok.resumed.recovery) c.reserve.ensures.same in
+    recover_done g.D.Disk.state g.D.Disk.images old c.reserve.new.self c.put_if.new.self s.disk s.agenda t c.requires.declared c.requires.down c.resume.new.table c.in-Ok.resumed.recovery c.in-Ok.resumed.state c.in-Ok.ensures.stage c.in-Ok.ensures.begins room told
 
 pub returns-in-Err-clause-recovers : goal.returns-in-Err-clause-recovers
 returns-in-Err-clause-recovers g c s t =
     let old = c.args.self.now in
     let f = c.fall.ensures in
     subst (λ (f : NodeFault). Recovers g.D.Disk.state g.D.Disk.images s old c.fall.new.self (Err f)) (sym c.from.ensures)
-    (recover_failed g.D.Disk.state g.D.Disk.images old s.disk s.agenda t c.requires.declared c.requires.down (record old { devs = c.begin_start.new.table; facts = c.reserve.new.self })
-    c.fall.new.self c.in-Err.fault c.in-Err.ensures f.falls
-    (record { told = ap (λ x. map fact_of x.items.items) f.facts ∙ ap (map fact_of) c.reserve.ensures.same; sent = ap (λ x. map send_of x.items.items) f.messages; same = record { store = f.same.store; table = f.same.table; schema = f.same.schema }; declared = f.declared }) f.down)
+    (recover_failed g.D.Disk.state g.D.Disk.images old s.disk s.agenda t c.requires.declared c.requires.down (record old { devs = c.resume.new.table; facts = c.reserve.new.self })
+    c.fall.new.self c.in-Err.fault c.in-Err.ensures.begins f.falls
+    (record { told = ap (λ x. map fact_of x.items.items) f.facts ∙ ap (map fact_of) c.reserve.ensures.same; sent = ap (λ x. map send_of x.items.items) f.messages; same = record { store = f.same.store; table = f.same.table; schema = f.same.schema }; declared = f.declared; state = f.state }) f.down)

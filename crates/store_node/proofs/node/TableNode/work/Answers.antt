@@ -43,7 +43,7 @@ returns-in-Ok-clause-works g c s t =
     let fact_due = told_at old.table old.owed c.in-Ok.step c.idle-is_last.result in
     let answer_due = sent_at old.table old.owed c.in-Ok.step in
     work_done g.D.Disk.state g.D.Disk.images (λ f image left. g.met.D.Disk.only_now (inner_of f) image left) old (writes_of old.devs) refl c.if-idle.ensures s.disk s.agenda t c.requires.up
-    c.work.new.self c.put_if.new.self c.put_if-in-Ok.new.self c.in-Ok.step c.idle-is_last.result (c.in-Ok.ensures.works up) c.in-Ok.ensures.fuse (c.work.ensures.hidden (node_hidden g.D.Disk.state g.D.Disk.images old s.disk s.agenda t c.requires.up)) last
+    c.work.new.self c.put_if.new.self c.put_if-in-Ok.new.self c.state_behind-self.result c.in-Ok.step c.idle-is_last.result c.state_behind-self.ensures (c.in-Ok.ensures.works up) c.in-Ok.ensures.fuse (c.work.ensures.hidden (node_hidden g.D.Disk.state g.D.Disk.images old s.disk s.agenda t c.requires.up)) last
     (put_told fact_of old.facts.items.items c.put_if.new.self.items.items c.fact_due-fact.result fact_due c.put_if.ensures.added c.fact_due-fact.ensures)
     (put_told send_of old.messages.items.items c.put_if-in-Ok.new.self.items.items c.answer_due-answer.result answer_due c.put_if-in-Ok.ensures.added c.answer_due-answer.ensures)
     (put_room fact_of old.facts c.put_if.new.self c.fact_due-fact.result fact_due c.fact_due-fact.ensures c.put_if.ensures.room)
@@ -56,7 +56,7 @@ returns-in-Err-clause-works g c s t =
     let f = c.fall.ensures in
     work_failed g.D.Disk.state g.D.Disk.images (λ f image left. g.met.D.Disk.only_now (inner_of f) image left) old (writes_of old.devs) refl c.if-idle.ensures s.disk s.agenda t c.requires.up
     (record old { devs = c.work.new.self }) c.fall.new.self _ (c.in-Err.ensures.works up) c.in-Err.ensures.fuse f.falls
-    (record { told = ap (λ x. map fact_of x.items.items) f.facts; sent = ap (λ x. map send_of x.items.items) f.messages; same = record { store = f.same.store; table = f.same.table; schema = f.same.schema }; declared = f.declared }) f.down
+    (record { told = ap (λ x. map fact_of x.items.items) f.facts; sent = ap (λ x. map send_of x.items.items) f.messages; same = record { store = f.same.store; table = f.same.table; schema = f.same.schema }; declared = f.declared; state = f.state }) f.down
 
 pub returns-in-Ok-clause-node : goal.returns-in-Ok-clause-node
 returns-in-Ok-clause-node g c = let n = c.requires.node in works_node g.D.Disk.state g.D.Disk.images n.0 c.args.self.now _ _ (returns-in-Ok-clause-works g c n.0 n.1)

@@ -7,7 +7,7 @@ from .messages import (DONE, KINDS, NO_TABLE, UNREGISTERED, Answer, Create, Drop
 from .node import OWNER
 from .selection import holds, parsed
 from .slots import (Held, HeldChunk, InFlight, Main, Shadow, accepted_at, all_fresh, changed_in, freed, held_against,
-                    read_chunks, shown_in, stored_chunks, version_in, version_seen)
+                    shown_in, stored_chunks, version_in, version_seen)
 from .timers import Timer, ticked
 from .values import GONE, Refused, check_fit, cut
 from .words import content_words, whole_word
@@ -429,14 +429,8 @@ class Client(Devices):
             self.send(more)
 
     def held_row(self, assembly):
-        """What holds the row of a complete answer: a kept chunk is held already, and so is one that was read under its
-        name, with its bytes."""
-        found = read_chunks(self.slots(assembly.message.table, assembly.row))
-
-        def brought(piece, data):
-            held = found.get((piece.name, len(data)))
-            return held if held and held.data == data else HeldChunk(None, piece.name, data)
-        objects = completed(assembly, self.kept_in(assembly), brought)
+        """What holds the row of a complete answer: a kept chunk is held already."""
+        objects = completed(assembly, self.kept_in(assembly), lambda piece, data: HeldChunk(None, piece.name, data))
         return self.hold(assembly.message.table, assembly.row, joined(assembly.content, objects), objects)
 
     def placed(self, assembly):

@@ -68,12 +68,6 @@ def stored_chunks(slots):
     return held
 
 
-def read_chunks(slots):
-    """The chunks that were read last of a row, and those of the row in conflict, by the Store's names and their
-    lengths."""
-    return stored_chunks(slots._replace(main=None, out=None))
-
-
 def without_names(held):
     """The same chunks, to be brought anew."""
     return held._replace(objects=[[chunk._replace(name=None) for chunk in chunks] for chunks in held.objects])

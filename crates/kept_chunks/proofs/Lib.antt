@@ -1,3 +1,4 @@
 pub mod SoFar
 pub mod Renamed
 pub mod HeldRows
+pub mod Anew

@@ -1,5 +1,6 @@
 -- What holds a row whose chunks are held already in part: these keep their local names.
-use Rattle.std.specs.Prelude.{◌≡◌, ◌⊎◌, ℕ, ◌==◌, ◌<◌, ◌≤◌, false, List, [], ◌++◌, length, map, slice_index_or, if◌then◌else◌}
+use Rattle.std.specs.Prelude.{◌≡◌, ◌⊎◌, ℕ, ◌==◌, ◌<◌, ◌≤◌, false, List, [], ◌++◌, length, map, slice_index_or}
+use Rattle.std.specs.Prelude.{if◌then◌else◌}
 use Rattle.std.specs.Prelude.{Some, Ok}
 use Rattle.std.specs.List.{AllByRecursion, Contains, flat_map}
 use Rattle.stab_base.specs.declared.chunk_name.ChunkName.{ChunkName}
@@ -65,8 +66,9 @@ pub record IsBroughtAs (new : List (List ℕ)) (local : LocalName) (bytes : List
 abbrev pub AreNumbered : List (List (HeldPiece × List ℕ)) → Type 0
 AreNumbered held = AllByRecursion (AllByRecursion (λ (chunk : HeldPiece × List ℕ). chunk.0.local.plan ≡ 0 → ⊥)) held
 
--- Each chunk that was brought has another local name: that of a chunk that is held and has its bytes, or its number among
--- those that are brought now. No two have one, and none has one that the content had; each that is brought now was.
+-- Each chunk that was brought has another local name: that of a chunk that is held and has its bytes, or its number
+-- among those that are brought now. No two have one, and none has one that the content had; each that is brought now
+-- was.
 pub record IsKept (held : List (List (HeldPiece × List ℕ))) (old new : HeldNew) : Type 0 where
   pub locals : List LocalName
   pub content : new.content ≡ content_under (local_for locals) old.content
@@ -85,8 +87,8 @@ pub record IsKept (held : List (List (HeldPiece × List ℕ))) (old new : HeldNe
 -- ---- what holds a row
 
 -- What holds the content of a row where these chunks are held, those that are shown first: it is whole under a plan of
--- any number above theirs, it names some of them and the chunks that it brings, and it is fit where they are. Its chunks
--- have the Store's names.
+-- any number above theirs, it names some of them and the chunks that it brings, and it is fit where they are. Its
+-- chunks have the Store's names.
 pub record HoldsKept (size : ℕ) (shown more : List (List (HeldPiece × List ℕ))) (content : Content)
     (given : List (List ChunkName)) (made : HeldNew) : Type 0 where
   pub whole_is : (meaning : LocalName → List ℕ) (number : ℕ) → AreShown meaning number (shown ++ more)

@@ -1,5 +1,5 @@
 //! The chunks that are held of a row, by the Store's names.
-ghost use Rattle.std.specs.Prelude.{◌≡◌, IfSome};
+ghost use Rattle.std.specs.Prelude.{◌≡◌, None, IfSome};
 ghost use Rattle.kept_chunks.specs.Kept.{IsHeldAs};
 
 use held_contents::ShownChunks;
@@ -41,7 +41,8 @@ pub(crate) fn held_under(
     name: Option<ChunkName>,
     bytes: &Bytes,
 ) -> Option<LocalName>
-    ensures { IfSome result (λ local. IsHeldAs held.now local bytes.now) }
+    ensures held { IfSome result (λ local. IsHeldAs held.now local bytes.now) }
+    ensures unnamed { name ≡ None → result ≡ None }
 {
     let (object, place) = *places.get(&name?)?;
     let chunks = held.get(object)?.as_slice();

@@ -4,10 +4,11 @@ ghost use Rattle.client_journal.specs.Devs.{chunk_of};
 ghost use Rattle.client_journal.specs.Names.{names_of_pieces};
 ghost use Rattle.client_journal.specs.There.{HasNames};
 ghost use Rattle.held_contents.specs.Holding.{pieces_held};
+ghost use Rattle.kept_chunks.specs.Anew.{up_to, names_up_to};
 ghost use Rattle.kept_chunks.specs.Kept.{pieces_in};
 
 use held_value::{HeldContent, HeldObject, HeldPiece, LocalName};
-use stab_base::ChunkName;
+use stab_base::{ChunkName, Version};
 use std::alloc::{AllocError, Global};
 use std::collections::BTreeSet;
 
@@ -55,16 +56,30 @@ pub(crate) fn taken_by(
     Ok(taken)
 }
 
-/// The Store's names of the chunks that are brought, in order.
+// A name up to a version.
+fn up_to(name: Option<ChunkName>, version: Version) -> Option<ChunkName>
+    ensures { result ≡ up_to version name }
+{
+    let name = name?;
+    if name.version <= version {
+        Some(name)
+    } else {
+        None
+    }
+}
+
+/// The Store's names of the chunks that are brought, in order, as far as they are up to a version.
 pub(crate) fn names_brought(
     alloc: Global,
     pieces: &[HeldPiece],
-) -> Result<Vec<Option<ChunkName>>, AllocError> {
-    let mut names = Vec::new(alloc);
-    for piece in pieces {
-        if piece.local.plan == 0 {
-            names.push(piece.name)?;
-        }
-    }
-    Ok(names)
+    version: Version,
+) -> Result<Vec<Option<ChunkName>>, AllocError>
+    ensures { IfOk result (λ names. names.items ≡ names_up_to version pieces.now) }
+{
+    pieces
+        .iter()
+        .copied()
+        .filter(|piece| piece.local.plan == 0)
+        .map(|piece| up_to(piece.name, version))
+        .collect(alloc)
 }

@@ -6,15 +6,15 @@ use row_pieces::is_named;
 use row_value::{
     Cells, Column, ColumnKind, Columns, Content, Objects, Schema, Scheme, SharedBytes, fits,
 };
-use stab_base::{Bytes, ChunkName, Names, Sequence};
+use stab_base::{Bytes, ChunkName, Names, Sequence, Version};
 use std::alloc::{AllocError, Global};
 use std::test::Fail;
 use step_tables::ObjectNames;
 
 /// The chunks of an object that are shown, without names of the Store's, those that were read last and those of the row
-/// in conflict, each under the name of its first letter; a new object, the names of its chunks, and the local names that
-/// hold it. Chunks have two bytes. The shown ones are A, B and so on, those that were read K, L and so on, those in
-/// conflict U, V and so on; the brought ones are 0, 1 and so on.
+/// in conflict, each under the name of its first letter; a new object, the names of its chunks, and the local names
+/// that hold it. Chunks have two bytes. The shown ones are A, B and so on, those that were read K, L and so on, those
+/// in conflict U, V and so on; the brought ones are 0, 1 and so on.
 const CASES: [(&[u8], &[u8], &[u8], &[u8], &[u8], &[u8]); 6] = [
     // nothing is held
     (b"", b"", b"", b"aabb", b"ab", b"01"),
@@ -104,6 +104,7 @@ fn held_of(alloc: Global, plan: u64, object: &[u8]) -> Result<Sequence<ShownChun
 fn hold_row(
     alloc: Global,
     schema: &Schema,
+    version: Version,
     held: (
         Sequence<ShownChunks>,
         Sequence<ShownChunks>,
@@ -120,7 +121,16 @@ fn hold_row(
     }
     let (shown, read, conflict) = held;
     match fits(schema, content) {
-        Ok(()) => Ok(Some(hold_kept(alloc, schema.chunk, shown, read, conflict, content, names)?)),
+        Ok(()) => Ok(Some(hold_kept(
+            alloc,
+            schema.chunk,
+            version,
+            shown,
+            read,
+            conflict,
+            content,
+            names,
+        )?)),
         Err(_) => Ok(None),
     }
 }
@@ -150,6 +160,7 @@ fn spell_held(alloc: Global, content: &HeldContent) -> Result<Bytes, AllocError>
 fn spelled_of(
     alloc: Global,
     schema: &Schema,
+    version: Version,
     held: (
         Sequence<ShownChunks>,
         Sequence<ShownChunks>,
@@ -158,7 +169,7 @@ fn spelled_of(
     content: &Content,
     names: &ObjectNames,
 ) -> Result<Bytes, AllocError> {
-    match hold_row(alloc, schema, held, content, names)? {
+    match hold_row(alloc, schema, version, held, content, names)? {
         None => Ok(Bytes::new(alloc)),
         Some(made) => spell_held(alloc, &made.content),
     }
@@ -174,8 +185,24 @@ fn chunks_that_are_held_under_their_names_are_kept(rt: HostRuntime) -> Result<()
         let content = content_of(rt.alloc(), object)?;
         let names = names_of(rt.alloc(), names)?;
         let held = (shown, read, conflict);
-        let locals = spelled_of(rt.alloc(), &schema, held, &content, &names)?;
+        let locals = spelled_of(rt.alloc(), &schema, 7, held, &content, &names)?;
         assert!(rt; locals.as_slice() == spelled);
     }
+    Ok(())
+}
+
+#[test]
+fn a_chunk_that_travels_is_brought_though_it_is_held(rt: HostRuntime) -> Result<(), Fail> {
+    let schema = one_object(rt.alloc())?;
+    let held = (
+        held_of(rt.alloc(), 1, b"")?,
+        held_of(rt.alloc(), 2, b"aabb")?,
+        held_of(rt.alloc(), 3, b"")?,
+    );
+    let content = content_of(rt.alloc(), b"bbaa")?;
+    let names = names_of(rt.alloc(), b"ba")?;
+    // the names have version 7
+    let locals = spelled_of(rt.alloc(), &schema, 6, held, &content, &names)?;
+    assert!(rt; locals.as_slice() == b"01".as_slice());
     Ok(())
 }

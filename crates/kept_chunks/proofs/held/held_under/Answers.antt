@@ -8,8 +8,8 @@ use Rattle.kept_chunks.proofs.held.held_under.Goals as goal
 found : {X : Type 0} (xs : List X) (i : ℕ) (x : X) → i < length xs → x ≡ get_or xs i x → Contains xs x
 found xs i x less is = subst (λ (y : _). Contains xs y) (sym is) (Contains-get_or xs i x less)
 
-pub returns-then-eq : goal.returns-then-eq
-returns-then-eq c =
+pub returns-then-eq-clause-held : goal.returns-then-eq-clause-held
+returns-then-eq-clause-held c =
     let object : List (HeldPiece × List ℕ) = c.in_ok-get.field-0.now in
     let chunks : List (HeldPiece × List ℕ) = c.as_slice-chunks.result.now in
     let is_object : chunks ≡ object = c.as_slice-chunks.ensures in

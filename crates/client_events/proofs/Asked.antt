@@ -16,7 +16,7 @@ use Rattle.step_tables.specs.Messages.{Luck}
 use Rattle.step_tables.specs.Messages as messages
 use Rattle.step_tables.specs.ClientMoves.{TableDisk, ClientDisk, ClientTask, Client, ClientMove, ClientStep, Shape, ResolveAll, all_fitting, all_idle, all_in, can_resolve, client_step, if_closed, is_before_phase, is_cut_off, kept_out, phases_by, seen, table_at}
 use Rattle.step_tables.proofs.Lists.{lookup-insert}
-use Rattle.world_tables.specs.World.{World, WorldStep, Moved, owner_of, client_at, first_luck, is_client_down, is_cut, packets_from, Outbox, is_resolving, move_client, moved_client, reads, refused, unless_cut, unless_kept}
+use Rattle.world_tables.specs.World.{World, WorldStep, Moved, owner_of, client_at, first_luck, is_client_down, is_cut, packets_from, Outbox, is_resolving, move_client, moved_client, reads, refused, unless_cut, unless_kept, unless_closed, is_closed, is_closed_in, closed_answer}
 use Rattle.world_laws.proofs.Working.{moved_is}
 use Rattle.journal_host.specs.declared.host.ClientHost.{ClientHost}
 use Rattle.journal_host.specs.Holds.{ClientThere, HoldsClients, outs_of, said}
@@ -47,10 +47,11 @@ all_still c shape table way d (Some agenda) = by_table (table_at (seen d) table)
 
 -- ---- where it is answered by a number
 
--- The client is idle, resolves the table's conflicts, and the move is all that is done.
+-- The client is idle, resolves the table's conflicts, hasn't closed it, and the move is all that is done.
 pub record IsAsked (w : World) (c table : ℕ) (way : Stored) (shape : Shape) (s : WorldStep) : Type 0 where
   pub disk : ClientDisk
   pub at : client_at w c ≡ Some (record { disk = disk; agenda = Some [] })
+  pub free : is_closed_in (table_at (seen disk) table) ≡ false
   pub phase : is_resolving w c table ≡ true
   pub is : s ≡ move_alone w c (ResolveAll table way) shape (record { disk = disk; agenda = Some [] })
 
@@ -115,8 +116,21 @@ module _ (w : World) (c table : ℕ) (way : Stored) (shape : Shape) (count : ℕ
         by_link true e = absurd (refuses_none facts.Offline count e)
         by_link false e = by_cut (phase_is (answer_is e)) false e
 
-    by_luck : (luck : Luck) → Found (reads w c luck (unless_kept w (kept_out (is_resolving w c) move step.answer) (unless_cut w (is_cut w c && is_cut_off c shape node move) alone)))
-    by_luck messages.Done is = by_kept (kept_out (is_resolving w c) move step.answer) refl is
+    abbrev says_shut : facts.Answer
+    says_shut = closed_answer shape (is_cut w c) (Some tasks) move
+
+    abbrev unshut : WorldStep
+    unshut = unless_kept w (kept_out (is_resolving w c) move step.answer) (unless_cut w (is_cut w c && is_cut_off c shape node move) alone)
+
+    abbrev FoundOpen : WorldStep → Type 0
+    FoundOpen s = s.answer ≡ Some (facts.Number count) → (is_closed node (Some table) ≡ false) × (tasks ≡ []) × (is_resolving w c table ≡ true) × (s ≡ alone)
+
+    by_shut : (b : Bool) → is_closed node (Some table) ≡ b → FoundOpen (unless_closed w b says_shut unshut)
+    by_shut true shut is = absurd (refuses_none facts.NoTable count is)
+    by_shut false shut is = let found = by_kept (kept_out (is_resolving w c) move step.answer) refl is in (shut, found.0, found.1, found.2)
+
+    by_luck : (luck : Luck) → FoundOpen (reads w c luck (unless_closed w (is_closed node (Some table)) says_shut unshut))
+    by_luck messages.Done is = by_shut (is_closed node (Some table)) refl is
     by_luck messages.FailedBefore is = absurd (refuses_none facts.NoDevice count is)
     by_luck messages.FailedAfter is = absurd (refuses_none facts.NoDevice count is)
 
@@ -126,16 +140,16 @@ module _ (w : World) (c table : ℕ) (way : Stored) (shape : Shape) (count : ℕ
       up : (d : ClientDisk) (tasks : List ClientTask) → client_at w c ≡ Some (record { disk = d; agenda = Some tasks })
           → (call_alone w c move shape lucks).answer ≡ Some (facts.Number count) → IsAsked w c table way shape (call_alone w c move shape lucks)
       up d tasks at is =
-          let behind : WorldStep = reads w c (first_luck lucks) (unless_kept w (kept_out (is_resolving w c) move (step d tasks at).answer)
-          (unless_cut w (is_cut w c && is_cut_off c shape (node d tasks at) move) (alone d tasks at))) in
+          let behind : WorldStep = reads w c (first_luck lucks) (unless_closed w (is_closed (node d tasks at) (Some table)) (says_shut d tasks at) (unshut d tasks at)) in
           let there : call_alone w c move shape lucks ≡ behind = ap (λ (o : Option Client). alone_there w c move shape lucks o) at
           ∙ ap (λ (b : Bool). if b then refused w (facts.NodeDown (nodes.Client c)) else behind) (ap is_client_down at) in
           let found = by_luck d tasks at (first_luck lucks) (ap (λ (s : WorldStep). s.answer) (sym there) ∙ is) in
           record {
             disk = d;
-            at = at ∙ ap (λ (ts : List ClientTask). Some (record { disk = d; agenda = Some ts })) found.0;
-            phase = found.1;
-            is = there ∙ (found.2 ∙ ap (λ (ts : List ClientTask). move_alone w c move shape (record { disk = d; agenda = Some ts })) found.0);
+            at = at ∙ ap (λ (ts : List ClientTask). Some (record { disk = d; agenda = Some ts })) found.1;
+            free = found.0;
+            phase = found.2;
+            is = there ∙ (found.3 ∙ ap (λ (ts : List ClientTask). move_alone w c move shape (record { disk = d; agenda = Some ts })) found.1);
           }
 
       down : (d : ClientDisk) → client_at w c ≡ Some (record { disk = d; agenda = None }) → (call_alone w c move shape lucks).answer ≡ Some (facts.Number count) → ⊥
@@ -147,8 +161,9 @@ module _ (w : World) (c table : ℕ) (way : Stored) (shape : Shape) (count : ℕ
           node_down = record { disk = d; agenda = None }
 
           behind : WorldStep
-          behind = reads w c (first_luck lucks) (unless_kept w (kept_out (is_resolving w c) move (client_step c shape node_down move).answer)
-              (unless_cut w (is_cut w c && is_cut_off c shape node_down move) (move_alone w c move shape node_down)))
+          behind = reads w c (first_luck lucks) (unless_closed w (is_closed node_down (Some table)) (closed_answer shape (is_cut w c) None move)
+              (unless_kept w (kept_out (is_resolving w c) move (client_step c shape node_down move).answer)
+              (unless_cut w (is_cut w c && is_cut_off c shape node_down move) (move_alone w c move shape node_down))))
 
       some : (d : ClientDisk) (agenda : Option (List ClientTask)) → client_at w c ≡ Some (record { disk = d; agenda = agenda }) → (call_alone w c move shape lucks).answer ≡ Some (facts.Number count)
           → IsAsked w c table way shape (call_alone w c move shape lucks)
@@ -211,4 +226,4 @@ module _ {D : Type 0} (state : D → DiskState) (w : World) (old mid : ClientHos
           by (Err fault) = refl
 
   pub ready : (last : ℕ) → q.disk.last ≤ last → (seen q.disk).last ≤ last → IsReady w c table last
-  ready last given giving = record { disk = q.disk; at = q.at; phase = q.phase; given = given; giving = giving }
+  ready last given giving = record { disk = q.disk; at = q.at; free = q.free; phase = q.phase; given = given; giving = giving }

@@ -13,7 +13,7 @@ use Rattle.step_tables.specs.Facts as facts
 use Rattle.step_tables.specs.Messages.{Message, Header, Luck, SyncRequest, SyncResponse, PullRequest, PullResponse, TornRowRequest, TornRowResponse}
 use Rattle.step_tables.specs.Messages as messages
 use Rattle.step_tables.specs.Travels.{message_of}
-use Rattle.step_tables.specs.ClientMoves.{Client, ClientDisk, ClientTask, ClientStep, ClientMove, Shape, TableDisk, Write, Change, Show, Sum, Sync, Next, BeginCr, Conflicts, EndCr, Resolve, ResolveAll, Take, Work, Crash, Start, client_step, no_shape, conflicts_in, table_at, seen}
+use Rattle.step_tables.specs.ClientMoves.{Client, ClientDisk, ClientTask, ClientStep, ClientMove, Shape, TableDisk, Write, Change, Show, Sum, Sync, Next, BeginCr, Conflicts, EndCr, Resolve, ResolveAll, Alter, Take, Work, Crash, Start, client_step, no_shape, conflicts_in, table_at, seen}
 use Rattle.step_tables.proofs.Lists.{lookup-insert}
 use Rattle.row_value.specs.declared.fit.FitFault.{FitFault}
 use Rattle.row_value.specs.Fit.{fit_of}
@@ -31,7 +31,7 @@ use Rattle.journal_host.specs.Asks.{move_of, FitsDisk, FitsAt}
 use Rattle.journal_host.specs.Moves.{then_moves, move_alone, alone_there, call_alone, take_there, take_alone, starts_alone, start_alone, has_work}
 use Rattle.journal_host.proofs.Alone.{alone_cases, call_held, call_busy, call_idle, take_held, take_busy, take_idle, start_follows, start_up}
 use Rattle.journal_host.proofs.Clients.{given_is}
-use Rattle.journal_host.proofs.Refusals.{write_only, edit_only, show_only, sum_only, sync_only, next_only, phase_only, resolve_only, take_only}
+use Rattle.journal_host.proofs.Refusals.{write_only, edit_only, show_only, sum_only, sync_only, next_only, phase_only, resolve_only, alter_only, take_only}
 use Rattle.client_events.specs.Fits.{FitsThere, FitsMessage}
 use Rattle.client_events.proofs.Working.{some_same}
 use Rattle.client_events.proofs.Wholes.{IsEvent}
@@ -68,6 +68,7 @@ is_asked (Next table tears asks) = true
 is_asked (BeginCr table) = true
 is_asked (EndCr table) = true
 is_asked (Resolve table row version choice) = true
+is_asked (Alter table change) = true
 is_asked (Take message) = true
 is_asked other = false
 
@@ -90,6 +91,7 @@ down_never c shape d (Show table row) asked = λ is. absurd cc
 down_never c shape d (Sum table row) asked = λ is. absurd cc
 down_never c shape d (Sync table) asked = λ is. absurd cc
 down_never c shape d (Next table tears asks) asked = λ is. absurd cc
+down_never c shape d (Alter table change) asked = λ is. absurd cc
 down_never c shape d (Take message) asked = λ is. absurd cc
 down_never c shape d (BeginCr table) asked = λ is. absurd cc
 down_never c shape d (Conflicts table) asked = λ is. absurd cc
@@ -108,6 +110,7 @@ up_never c shape d tasks (Show table row) asked = λ is. (show_only d tasks row 
 up_never c shape d tasks (Sum table row) asked = λ is. (sum_only d tasks row (table_at (seen d) table) facts.NoDevice is).1 refl
 up_never c shape d tasks (Sync table) asked = λ is. (sync_only c shape d tasks table (table_at (seen d) table) facts.NoDevice is).1 refl
 up_never c shape d tasks (Next table tears asks) asked = λ is. (next_only c shape d tasks table tears asks (table_at (seen d) table) facts.NoDevice is).1 refl
+up_never c shape d tasks (Alter table change) asked = λ is. (alter_only c shape d tasks table change facts.NoDevice is).1 refl
 up_never c shape d tasks (Take message) asked = λ is. (take_only c shape d tasks message facts.NoDevice is).1 refl
 up_never c shape d tasks (BeginCr table) asked = λ is. (phase_only d tasks (table_at (seen d) table) facts.NoDevice is).1 refl
 up_never c shape d tasks (Conflicts table) asked = absurd cc

@@ -20,11 +20,12 @@ use Rattle.step_tables.specs.Messages as messages
 use Rattle.step_tables.specs.ClientMoves.{Slots, TableDisk, RowPut, Plan, ClientDisk, ClientTask, Client, ClientMove, ClientStep, Shape, Resolve, Work, choose, client_step, is_before_phase, is_cut_off, if_closed, keeps, kept_out, no_shape, over_fitting, phases_by, planning, put_row, resolve_in, resolve_over, row_put, seen, slots_at, table_at, with_table}
 use Rattle.step_tables.specs.ClientMoves as client
 use Rattle.world_tables.specs.World.{World, Moved, and_then, and_unless, answering, client_at, client_tasks, client_until_idle, client_works, first_luck, other_lucks, is_client_down, is_cut, is_fault, is_resolving, move_client, moved_client, reads, refused, unless_cut, unless_kept}
-use Rattle.world_tables.specs.World.{chosen_of, first_shape, other_shapes, resolve_by, resolve_each, plan_size}
+use Rattle.world_tables.specs.World.{unless_closed, is_closed, is_closed_in, closed_answer, chosen_of, first_shape, other_shapes, resolve_by, resolve_each, plan_size}
 use Rattle.world_laws.proofs.Working.{moved_is, moved_at, all_changed, Always, works_end, or_true, or_false}
 use Rattle.journal_host.specs.Moves.{move_alone, alone_there, call_alone}
 use Rattle.journal_host.proofs.Keeping.{KeepsMoved, still_keeps, unless_then_keeps, resolve_by_keeps, until_idle_keeps}
 use Rattle.client_events.specs.Resolves.{resolve_row, IsReady}
+use Rattle.client_events.proofs.Closings.{put_kept, open_before}
 
 -- ---- what a client that is idle makes of it
 
@@ -33,7 +34,7 @@ pub record Takes (shape : Shape) (d : ClientDisk) (step : ClientStep) : Type 0 w
   pub well : is_fault step.answer ≡ false
   pub begins : (step.client ≡ record { disk = d; agenda = Some [] })
       ⊎ ((last : ℕ) × (table : ℕ) × (put : RowPut) × (told : List ClientFact) × (last ≤ d.last + 1)
-      × (step.client ≡ record { disk = d; agenda = Some (planning shape (record { last = last; table = table; row = Some put; position = None; facts = told }) []) }))
+      × (step.client ≡ record { disk = d; agenda = Some (planning shape (record { last = last; table = table; row = Some put; position = None; alters = None; facts = told }) []) }))
 
 module _ (c : ℕ) (shape : Shape) (d : ClientDisk) (table : ℕ) (row : List ℕ) where
   over_takes : (slots : Slots) (main : Main) (x : Shadow) (content : Content) (fit : Result (Unit {0}) FitFault) → Takes shape d (over_fitting c shape d table row slots main x content fit)
@@ -73,7 +74,7 @@ keeps_change (step ∷ steps) d more = keeps_change steps d more
 
 module _ (shape : Shape) (d : ClientDisk) (last table : ℕ) (put : RowPut) (told : List ClientFact) where
   abbrev plan : Plan
-  plan = record { last = last; table = table; row = Some put; position = None; facts = told }
+  plan = record { last = last; table = table; row = Some put; position = None; alters = None; facts = told }
 
   abbrev stored : ClientDisk
   stored = row_put (record d { plan = Some plan }) last table (Some put)
@@ -96,6 +97,10 @@ module _ (shape : Shape) (d : ClientDisk) (last table : ℕ) (put : RowPut) (tol
 
   pub ended_seen : (seen (all_changed d (planning shape plan []))).last ≡ last
   ended_seen = ap (λ (e : ClientDisk). (seen e).last) plan_ends ∙ stored_last
+
+  -- it closes no table
+  pub ended_free : (t : ℕ) → is_closed_in (table_at (seen d) t) ≡ false → is_closed_in (table_at (seen (all_changed d (planning shape plan []))) t) ≡ false
+  ended_free t free = ap (λ (e : ClientDisk). is_closed_in (table_at (seen e) t)) plan_ends ∙ (put_kept t (record d { plan = Some plan }) last table put ∙ open_before t d free)
 
 -- ---- its work leaves the phases
 
@@ -167,11 +172,15 @@ module _ (w : World) (c table : ℕ) (way : Stored) (pair : RowPair) (shape : Sh
   free : kept_out (is_resolving w c) move step.answer ≡ None
   free = ap (λ (b : Bool). if_closed (is_before_phase move step.answer) b) r.phase
 
-  by_luck : (luck : Luck) → reads w c luck (unless_kept w (kept_out (is_resolving w c) move step.answer)
-      (unless_cut w (is_cut w c && is_cut_off c shape node move) (move_alone w c move shape node))) ≡ answering (row_answer luck) (row_by luck)
+  abbrev says_shut : Answer
+  says_shut = closed_answer shape (is_cut w c) (Some []) move
+
+  by_luck : (luck : Luck) → reads w c luck (unless_closed w (is_closed node (Some table)) says_shut (unless_kept w (kept_out (is_resolving w c) move step.answer)
+      (unless_cut w (is_cut w c && is_cut_off c shape node move) (move_alone w c move shape node)))) ≡ answering (row_answer luck) (row_by luck)
   by_luck messages.Done =
-      ap (λ (o : Option Refusal). unless_kept w o (unless_cut w (is_cut w c && is_cut_off c shape node move) (move_alone w c move shape node))) free
-      ∙ ap (λ (b : Bool). unless_cut w b (move_alone w c move shape node)) (linked (is_cut w c))
+      ap (λ (b : Bool). unless_closed w b says_shut (unless_kept w (kept_out (is_resolving w c) move step.answer) (unless_cut w (is_cut w c && is_cut_off c shape node move) (move_alone w c move shape node)))) r.free
+      ∙ (ap (λ (o : Option Refusal). unless_kept w o (unless_cut w (is_cut w c && is_cut_off c shape node move) (move_alone w c move shape node))) free
+      ∙ ap (λ (b : Bool). unless_cut w b (move_alone w c move shape node)) (linked (is_cut w c)))
   by_luck messages.FailedBefore = refl
   by_luck messages.FailedAfter = refl
 
@@ -179,7 +188,7 @@ module _ (w : World) (c table : ℕ) (way : Stored) (pair : RowPair) (shape : Sh
   row_alone lucks =
       ap (λ (o : Option Client). alone_there w c move shape lucks o) r.at
       ∙ (ap (λ (b : Bool). if b then refused w (facts.NodeDown (nodes.Client c)) else reads w c (first_luck lucks)
-      (unless_kept w (kept_out (is_resolving w c) move step.answer) (unless_cut w (is_cut w c && is_cut_off c shape node move) (move_alone w c move shape node)))) (ap is_client_down r.at)
+      (unless_closed w (is_closed node (Some table)) says_shut (unless_kept w (kept_out (is_resolving w c) move step.answer) (unless_cut w (is_cut w c && is_cut_off c shape node move) (move_alone w c move shape node))))) (ap is_client_down r.at)
       ∙ by_luck (first_luck lucks))
 
   -- whether it fails is told by its answer
@@ -195,31 +204,32 @@ module _ (w : World) (c table : ℕ) (way : Stored) (pair : RowPair) (shape : Sh
   -- ---- it is ready for the next row
 
   works_ready : (v : World) (d : ClientDisk) (tasks : List ClientTask) (lucks : List Luck) → client_at v c ≡ Some (record { disk = d; agenda = Some tasks }) → v.phases ≡ w.phases
-      → (all_changed d tasks).last ≤ last + 1 → (seen (all_changed d tasks)).last ≤ last + 1 → (client_works c tasks lucks v).failed ≡ false
+      → is_closed_in (table_at (seen (all_changed d tasks)) table) ≡ false → (all_changed d tasks).last ≤ last + 1 → (seen (all_changed d tasks)).last ≤ last + 1 → (client_works c tasks lucks v).failed ≡ false
       → IsReady (client_works c tasks lucks v).world c table (last + 1)
-  works_ready v d tasks lucks at same given giving none =
+  works_ready v d tasks lucks at same unshut given giving none =
       let e = works_end (λ (x : ClientDisk). Unit {0}) c tasks lucks v d at (any_always d tasks) in
       record {
         disk = all_changed d tasks;
         at = e.there ∙ ap Some (e.well none);
+        free = unshut;
         phase = ap (λ (phases : List (ℕ × ℕ)). is_resolving (record w { phases = phases }) c table) (works_phases c tasks lucks v d at none ∙ same) ∙ r.phase;
         given = given;
         giving = giving;
       }
 
   idle_ready : (v : World) (d : ClientDisk) (tasks : List ClientTask) (lucks : List Luck) → client_at v c ≡ Some (record { disk = d; agenda = Some tasks }) → v.phases ≡ w.phases
-      → (all_changed d tasks).last ≤ last + 1 → (seen (all_changed d tasks)).last ≤ last + 1 → (client_until_idle c lucks v).failed ≡ false
+      → is_closed_in (table_at (seen (all_changed d tasks)) table) ≡ false → (all_changed d tasks).last ≤ last + 1 → (seen (all_changed d tasks)).last ≤ last + 1 → (client_until_idle c lucks v).failed ≡ false
       → IsReady (client_until_idle c lucks v).world c table (last + 1)
-  idle_ready v d tasks lucks at same given giving =
+  idle_ready v d tasks lucks at same unshut given giving =
       subst (λ (ts : List ClientTask). (client_works c ts lucks v).failed ≡ false → IsReady (client_works c ts lucks v).world c table (last + 1)) (sym (ap client_tasks at))
-      (works_ready v d tasks lucks at same given giving)
+      (works_ready v d tasks lucks at same unshut given giving)
 
   resolved_ready : (lucks : List Luck) → (client_until_idle c lucks (row_by messages.Done).world).failed ≡ false → IsReady (client_until_idle c lucks (row_by messages.Done).world).world c table (last + 1)
   resolved_ready lucks = ⊎_elim
-      (λ (is : step.client ≡ node). idle_ready v r.disk [] lucks (there ∙ ap Some is) (phases ∙ ap (λ (s : Client). phases_by c move step.answer s.agenda w.phases) is)
+      (λ (is : step.client ≡ node). idle_ready v r.disk [] lucks (there ∙ ap Some is) (phases ∙ ap (λ (s : Client). phases_by c move step.answer s.agenda w.phases) is) r.free
       (let few = r.given in omega (arith, few)) (let few = r.giving in omega (arith, few)))
-      (λ x. idle_ready v r.disk (planning shape (record { last = x.0; table = x.1; row = Some x.2; position = None; facts = x.3 }) []) lucks (there ∙ ap Some x.5)
-      (phases ∙ ap (λ (s : Client). phases_by c move step.answer s.agenda w.phases) x.5)
+      (λ x. idle_ready v r.disk (planning shape (record { last = x.0; table = x.1; row = Some x.2; position = None; alters = None; facts = x.3 }) []) lucks (there ∙ ap Some x.5)
+      (phases ∙ ap (λ (s : Client). phases_by c move step.answer s.agenda w.phases) x.5) (ended_free shape r.disk x.0 x.1 x.2 x.3 table r.free)
       (let is = ended_last shape r.disk x.0 x.1 x.2 x.3 in let few = r.given in let next = x.4 in omega (arith, is, few, next))
       (let is = ended_seen shape r.disk x.0 x.1 x.2 x.3 in let few = r.given in let next = x.4 in omega (arith, is, few, next)))
       takes.begins

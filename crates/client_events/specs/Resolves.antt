@@ -1,5 +1,6 @@
 -- What becomes of the clients where one of them resolves all conflicts of a table.
-use Rattle.std.specs.Prelude.{◌≡◌, ◌⊎◌, ℕ, ◌+◌, ◌<◌, ◌≤◌, true, List, [], Option, Some, None, Result, IfOk}
+use Rattle.std.specs.Prelude.{◌≡◌, ◌⊎◌, ℕ, ◌+◌, ◌<◌, ◌≤◌, true, false, List, [], Option, Some, None}
+use Rattle.std.specs.Prelude.{Result, IfOk}
 use Rattle.disk_trait.specs.Calls.{DiskState}
 use Rattle.stab_base.specs.declared.limits.TheConstants.{NUMBER_MAX}
 use Rattle.conflicts.specs.declared.stored.Stored.{Stored}
@@ -8,9 +9,9 @@ use Rattle.table_model.specs.declared.line.Answer.TheVariants as answers
 use Rattle.table_model.specs.declared.line.RowPair.{RowPair}
 use Rattle.step_tables.specs.Lines.{answer_of}
 use Rattle.step_tables.specs.Messages.{Luck}
-use Rattle.step_tables.specs.ClientMoves.{ClientDisk, Client, Shape, seen}
-use Rattle.world_tables.specs.World.{World, WorldStep, Moved, Lucks, and_unless, client_at, client_until_idle, first_luck}
-use Rattle.world_tables.specs.World.{is_fault, is_resolving, other_lucks, resolve_by}
+use Rattle.step_tables.specs.ClientMoves.{ClientDisk, Client, Shape, table_at, seen}
+use Rattle.world_tables.specs.World.{World, WorldStep, Moved, Lucks, and_unless, client_at, client_until_idle}
+use Rattle.world_tables.specs.World.{first_luck, is_closed_in, is_fault, is_resolving, other_lucks, resolve_by}
 use Rattle.journal_host.specs.declared.fault.ClientFault.{ClientFault}
 use Rattle.journal_host.specs.declared.fault.ClientFault.TheVariants as fault
 use Rattle.journal_host.specs.declared.host.ClientHost.{ClientHost}
@@ -23,10 +24,12 @@ abbrev pub resolve_row : ℕ → ℕ → Stored → Shape → RowPair → List L
 resolve_row c table by shape pair lucks w =
     and_unless (resolve_by c table by shape pair (first_luck lucks) w) (client_until_idle c (other_lucks lucks))
 
--- A client that has nothing to do, resolves the conflicts of a table, and has given no number above this.
+-- A client that has nothing to do, resolves the conflicts of a table that it hasn't closed, and has given no number
+-- above this.
 pub record IsReady (w : World) (c table last : ℕ) : Type 0 where
   pub disk : ClientDisk
   pub at : client_at w c ≡ Some (record { disk = disk; agenda = Some [] })
+  pub free : is_closed_in (table_at (seen disk) table) ≡ false
   pub phase : is_resolving w c table ≡ true
   pub given : disk.last ≤ last
   pub giving : (seen disk).last ≤ last

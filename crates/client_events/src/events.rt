@@ -1,8 +1,9 @@
 //! The events of a world's clients.
 ghost use Rattle.std.specs.Prelude.{◌≡◌, ◌≢◌, ℕ, suc, [], IfErr};
 ghost use Rattle.stab_base.specs.declared.node.Node.TheVariants as nodes;
-ghost use Rattle.step_tables.specs.ClientMoves.{Conflicts, Next};
+ghost use Rattle.step_tables.specs.ClientMoves.{Alter, Opens, Closes, Conflicts, Next};
 ghost use Rattle.step_tables.specs.Travels.{message_of};
+ghost use Rattle.client_node.specs.Node.{IsToOpen};
 ghost use Rattle.world_tables.specs.World as calls;
 ghost use Rattle.world_tables.specs.World.{World as AWorld, to_there, started, client_at, has_node};
 ghost use Rattle.journal_host.specs.Asks.{move_of};
@@ -14,6 +15,7 @@ ghost use Rattle.client_events.specs.Fits.{FitsMessage};
 use crate::follow::follow;
 use disk_trait::Disk;
 use journal_host::{Ask, ClientFault, ClientHost};
+use row_value::Schema;
 use stab_base::{ClientNo, RowId, Sequence, TableNo};
 use step_tables::Message;
 use table_model::{Answer, RowPairs};
@@ -108,6 +110,66 @@ pub fn pull<D: Disk + Drop>(
         return call(clients, is_held, client, Ask::Pull { table });
     }
     ask_whole(clients, is_held, client, table, tears, asks)
+}
+
+/// Opens a table at a client, and does the work that follows: one that is there, open or closed, stays as it is.
+///
+/// # Errors
+///
+/// Those of `call`.
+pub fn open<D: Disk + Drop>(
+    clients: &mut ClientHost<D>,
+    is_held: bool,
+    client: ClientNo,
+    table: TableNo,
+    schema: Schema,
+) -> Result<Answer, ClientFault>
+    requires clients { AreClients D.state clients.old }
+    requires opens { IsToOpen (table, schema) }
+    ensures called { (w : AWorld) → HoldsClients D.state w clients.old
+        → is_held ≡ has_node w.holds (nodes.Client client)
+        → Comes D.state clients.old clients.new (calls.call w client (Alter table (Opens schema))) result }
+    ensures spent { (w : AWorld) (n : ℕ) → HoldsClients D.state w clients.old
+        → HavePlansBelow D.state n clients.old.clients
+        → IfErr result (IsNumberCause n (client_at w client)) }
+    ensures kept { (w : AWorld) → HoldsClients D.state w clients.old
+        → IfErr result (λ e. e ≡ Spent → Stays D.state w clients.old clients.new) }
+    ensures cause { HasCause D.state client clients.old.clients clients.new.clients result }
+    ensures plans { (n : ℕ) → HavePlansBelow D.state n clients.old.clients
+        → HavePlansBelow D.state (suc n) clients.new.clients }
+{
+    let was_busy = clients.is_busy(client);
+    let found = clients.open(client, table, schema);
+    follow(clients, is_held, was_busy, client, found)
+}
+
+/// Closes a table at a client for good, and does the work that follows; one that isn't there stays so.
+///
+/// # Errors
+///
+/// Those of `call`.
+pub fn close<D: Disk + Drop>(
+    clients: &mut ClientHost<D>,
+    is_held: bool,
+    client: ClientNo,
+    table: TableNo,
+) -> Result<Answer, ClientFault>
+    requires { AreClients D.state clients.old }
+    ensures called { (w : AWorld) → HoldsClients D.state w clients.old
+        → is_held ≡ has_node w.holds (nodes.Client client)
+        → Comes D.state clients.old clients.new (calls.call w client (Alter table Closes)) result }
+    ensures spent { (w : AWorld) (n : ℕ) → HoldsClients D.state w clients.old
+        → HavePlansBelow D.state n clients.old.clients
+        → IfErr result (IsNumberCause n (client_at w client)) }
+    ensures kept { (w : AWorld) → HoldsClients D.state w clients.old
+        → IfErr result (λ e. e ≡ Spent → Stays D.state w clients.old clients.new) }
+    ensures cause { HasCause D.state client clients.old.clients clients.new.clients result }
+    ensures plans { (n : ℕ) → HavePlansBelow D.state n clients.old.clients
+        → HavePlansBelow D.state (suc n) clients.new.clients }
+{
+    let was_busy = clients.is_busy(client);
+    let found = clients.close(client, table);
+    follow(clients, is_held, was_busy, client, found)
 }
 
 /// Lists the rows in conflict of a table whose conflicts the client resolves: how many there are. They are handed over

@@ -5,5 +5,5 @@ mod events;
 mod follow;
 mod resolving;
 
-pub use events::{call, conflicts, deliver, pull, start};
+pub use events::{call, close, conflicts, deliver, open, pull, start};
 pub use resolving::resolve_all;

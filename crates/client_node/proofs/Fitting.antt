@@ -17,7 +17,7 @@ use Rattle.client_journal.specs.Standing.{MayDoAll}
 use Rattle.client_journal.proofs.Applied.{as_held}
 use Rattle.step_tables.specs.ClientMoves.{ClientDisk}
 use Rattle.journal_laws.specs.Holds.{Stands, slots_or_empty}
-use Rattle.plan_limits.specs.Fit.{AreFitRows, AreOlderRows, IsFitChange}
+use Rattle.plan_limits.specs.Fit.{AreFitRows, AreOlderRows, IsFitChange, KeepsRows}
 use Rattle.plan_limits.proofs.Numbers.{others}
 use Rattle.plan_limits.proofs.Followed.{rows_followed}
 use Rattle.client_node.specs.Node.{StayFit}
@@ -78,5 +78,5 @@ module _ (c : ℕ) (meaning : LocalName → List ℕ) (d : ClientDevs) (disk : C
         each = λ table row stored is. others meaning (record_of d.held table) number plan.brought stored.slots ((fit_held fit).each table row stored is) (rows_are_older.each table row stored is);
       }
 
-      pub rows_fit_behind : plan.new_record ≡ None → IsPlanNumber number → IfSome plan.row (IsFitChange meaning number plan.brought (record_of d.held plan.table)) → AreFitRows (meaning_with meaning number plan.brought) (applied (commit_for number plan) d.held)
-      rows_fit_behind no_record is change = rows_followed meaning d.held number plan (fit_held fit) rows_are_older no_record is change
+      pub rows_fit_behind : IfSome plan.new_record (KeepsRows d.held plan) → IsPlanNumber number → IfSome plan.row (IsFitChange meaning number plan.brought (record_of d.held plan.table)) → AreFitRows (meaning_with meaning number plan.brought) (applied (commit_for number plan) d.held)
+      rows_fit_behind keeps is change = rows_followed meaning d.held number plan (fit_held fit) rows_are_older is change keeps

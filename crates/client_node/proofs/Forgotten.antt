@@ -165,6 +165,7 @@ module _ (d : ClientDevs) (c : ℕ) (old new : Waiting) (table : ℕ) (l : IsLes
   table_less number (Some t) is h = record {
     numbered = h.numbered;
     spelled = h.spelled;
+    short = h.short;
     rising = h.rising;
     noted = λ row. noted_less number row (slots_at t row) (ap (λ (x : Option TableDisk). slots_in x row) (sym is)) (h.noted row);
   }

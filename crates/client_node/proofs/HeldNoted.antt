@@ -53,6 +53,7 @@ module _ (c : ℕ) (meaning : LocalName → List ℕ) (d : ClientDevs) (disk : C
   noted_table table (Some t) is k = record {
     numbered = k.numbered;
     spelled = k.spelled;
+    short = k.short;
     rising = k.rising;
     noted = λ row. noted_row d.journal.at_work refl table row (slots_at t row) k.numbered (ap (λ (o : Option TableDisk). slots_in o row) (sym is) ∙ sym (s.held.rows table row)) (k.noted row);
   }
@@ -70,7 +71,7 @@ module _ (c : ℕ) (meaning : LocalName → List ℕ) (d : ClientDevs) (disk : C
   noted_plan work None is k steady = tt
   noted_plan Idle (Some p) is k steady = absurd k
   noted_plan (Intended intend) (Some p) is k steady = absurd k
-  noted_plan (Committed commit) (Some p) is k steady = record { few = steady.few; noted = noted_put commit p commit.row p.row is refl k.0.table k.0.row steady.noted }
+  noted_plan (Committed commit) (Some p) is k steady = record { few = steady.few; alters = steady.alters; noted = noted_put commit p commit.row p.row is refl k.0.table k.0.row steady.noted }
 
   pub steady_held : IsSteady w disk
   steady_held = record {

@@ -19,6 +19,7 @@ pub mod RowPlans
 pub mod Planned
 pub mod Serving
 pub mod Links
+pub mod Closing
 pub mod Pulls
 pub mod Sent
 pub mod Begun
@@ -73,3 +74,7 @@ pub mod ResolvePlans
 pub mod PreparedResolves
 pub mod AllListed
 pub mod MadeChoices
+pub mod KeptRows
+pub mod BarePlans
+pub mod AlteredPlans
+pub mod AlteredTables

@@ -1,5 +1,5 @@
 -- What a declaration does to a client's devices, call by call.
-use Rattle.std.proofs.Common.{◌≡◌, ◌⊎◌, inl, inr, ⊎_elim, ℕ, ◌<◌, ◌≤◌, true, false, Bool, cond, List, [], ◌∷◌, Option, Some, None, Result, Ok, Err, refl, sym, ◌∙◌, ap, subst, arith}
+use Rattle.std.proofs.Common.{◌≡◌, ◌⊎◌, inl, inr, ⊎_elim, ℕ, ◌+◌, ◌<◌, ◌≤◌, true, false, Bool, cond, List, [], ◌∷◌, ◌++◌, length, Option, Some, None, Result, Ok, Err, refl, sym, ◌∙◌, ap, subst, arith, length-append}
 use Rattle.std.specs.Prelude.{IfSome, IfErr, IsErrOf}
 use Rattle.std.specs.Ordering.{nat_cmp}
 use Rattle.std.specs.Cmp.{nat_cmp_total}
@@ -13,7 +13,11 @@ use Rattle.held_value.specs.declared.local_name.LocalName.{LocalName}
 use Rattle.slot_store.specs.declared.held.RowSlots.{RowSlots}
 use Rattle.slot_store.specs.declared.held.TableRecord.{TableRecord}
 use Rattle.slot_store.specs.Data.{SlotData, with_record, slots_of, record_of}
-use Rattle.slot_store.specs.Spelling.{HasRecordSpelling}
+use Rattle.slot_store.specs.Spelling.{HasRecordSpelling, record_payload}
+use Rattle.slot_store.proofs.Again.{four_len}
+use Rattle.field_codec.specs.Forms.{four, eight}
+use Rattle.value_codec.specs.SchemaSpelling.{schema_spelling}
+use Rattle.vault.specs.Limit.{payload_most}
 use Rattle.client_journal.specs.declared.devs.Journal.{Journal}
 use Rattle.client_journal.specs.declared.fault.JournalFault.{JournalFault}
 use Rattle.client_journal.specs.declared.fault.JournalFault.TheVariants as journal
@@ -25,12 +29,13 @@ use Rattle.client_journal.specs.Standing.{devs, writes_of, all_faults, nothing, 
 use Rattle.client_journal.specs.Unset.{KeepsUnset}
 use Rattle.client_journal.proofs.Fusing.{keeps_then, keeps_same}
 use Rattle.client_journal.proofs.Lookups.{record_put}
-use Rattle.step_tables.specs.ClientMoves.{TableDisk, slots_in, no_slots}
+use Rattle.step_tables.specs.ClientMoves.{TableDisk, slots_in, no_slots, opened_table}
 use Rattle.journal_laws.specs.Holds.{StandsTable, Stands, empty, slots_or_empty}
 use Rattle.journal_laws.specs.Whole.{whole_slots, AreHeld, AreNumbered}
-use Rattle.journal_laws.specs.Moves.{opened_table, opened_record}
+use Rattle.journal_laws.specs.Moves.{opened_record}
 use Rattle.journal_laws.proofs.Tables.{table_here, table_or_not}
 use Rattle.plan_limits.specs.Fit.{AreFitRows}
+use Rattle.plan_limits.proofs.Small.{eight_len}
 use Rattle.client_node.specs.declared.fault.CallFault.{CallFault}
 use Rattle.client_node.specs.declared.fault.CallFault.TheVariants as call
 use Rattle.client_node.specs.Fault.{fault_of}
@@ -83,6 +88,13 @@ opened_spelled table o = record {
   schema = o.spelled;
   position = omega arith;
 }
+
+-- a record has 14 bytes beside its schema
+pub opened_short : (table : ℕ × Schema) → IsToOpen table → length (record_payload (opened_record table.0 table.1)) ≤ payload_most
+opened_short table o =
+    let spelling : List ℕ = schema_spelling table.1 in
+    let room : length spelling + 128 ≤ payload_most = o.short in
+    omega (arith, room, four_len table.0, eight_len 0, length-append (four table.0) (1 ∷ (spelling ++ eight 0)), length-append spelling (eight 0))
 
 put_other : (held : SlotData) (made : TableRecord) (q : ℕ) → is_at (nat_cmp made.table) q ≡ false → record_of (with_record held made) q ≡ record_of held q
 put_other held made q apart = lookup-changed nat_cmp nat_cmp_total held.tables made.table (Some made) q ∙ ap (λ (b : Bool). cond b (Some made) (record_of held q)) apart

@@ -8,24 +8,15 @@ use Rattle.std.specs.BTreeMap.{insert_entry, is_at}
 use Rattle.std.specs.List.{AllByRecursion}
 use Rattle.std.specs.List.Sorted.{IsStrictlySortedBy}
 use Rattle.row_value.specs.declared.schema.Schema.{Schema}
-use Rattle.step_tables.specs.ClientMoves.{TableDisk}
-use Rattle.journal_laws.specs.Moves.{opened_table}
+use Rattle.step_tables.specs.ClientMoves.{TableDisk, opened_table}
 use Rattle.journal_laws.proofs.Tables.{table_here, table_or_not}
 use Rattle.client_node.specs.declared.waiting.Waiting.{Waiting}
 use Rattle.client_node.specs.Node.{IsToOpen, opened_all, to_open}
 use Rattle.client_node.specs.Steady.{IsSteadyTable, IsSteady}
 use Rattle.client_node.proofs.Rising.{sorted_insert}
+use Rattle.client_node.proofs.Steadies.{opened_steady}
 
 module _ (w : Waiting) where
-  opened_steady : (table : ℕ × Schema) → IsToOpen table → IsSteadyTable w table.0 (opened_table table.1)
-  unfolding IsStrictlySortedBy
-  opened_steady table o = record {
-    numbered = o.numbered;
-    spelled = o.spelled;
-    rising = tt;
-    noted = λ row. record { sent = λ some. absurd cc; ready = λ some. absurd cc; conflict = λ some. absurd cc; sized = λ some. absurd cc };
-  }
-
   record AreSteadyTables (some : List (ℕ × TableDisk)) : Type 0 where
     pub rising : IsStrictlySortedBy nat_cmp (keys_of some)
     pub each : (q : ℕ) → IfSome (lookup (is_at (nat_cmp q)) some) (IsSteadyTable w q)
@@ -40,7 +31,7 @@ module _ (w : Waiting) where
           → IfSome (lookup (is_at (nat_cmp q)) (insert_entry nat_cmp some table.0 (opened_table table.1))) (IsSteadyTable w q)
       pick q (inl same) =
           subst (λ (x : ℕ). IfSome (lookup (is_at (nat_cmp x)) (insert_entry nat_cmp some table.0 (opened_table table.1))) (IsSteadyTable w x)) same
-          (subst (λ (o : Option TableDisk). IfSome o (IsSteadyTable w table.0)) (sym (table_here some table.0 (opened_table table.1))) (opened_steady table o))
+          (subst (λ (o : Option TableDisk). IfSome o (IsSteadyTable w table.0)) (sym (table_here some table.0 (opened_table table.1))) (opened_steady w table.0 table.1 o.numbered o.spelled o.short))
       pick q (inr other) = subst (λ (o : Option TableDisk). IfSome o (IsSteadyTable w q)) (sym other.1) (h.each q)
 
   all_opened : (some : List (ℕ × TableDisk)) (tables : List (ℕ × Schema)) → AllByRecursion IsToOpen tables → AreSteadyTables some → AreSteadyTables (opened_all some tables)

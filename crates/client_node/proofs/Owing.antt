@@ -7,7 +7,7 @@ use Rattle.client_journal.specs.Devs.{ClientDevs, Write, changed_by}
 use Rattle.client_journal.specs.Standing.{step_of}
 use Rattle.step_tables.specs.Facts.{Fact}
 use Rattle.step_tables.specs.Messages.{Send}
-use Rattle.step_tables.specs.ClientMoves.{Plan, RowPut, ClientDisk, ClientChange, ClientTask, Shape, changed, told, only, keeps, row_task, table_task, rest_of, planning}
+use Rattle.step_tables.specs.ClientMoves.{Plan, RowPut, TableChange, ClientDisk, ClientChange, ClientTask, Shape, changed, told, only, keeps, row_task, table_task, put_tasks, rest_of, planning}
 use Rattle.step_tables.specs.ClientMoves as moves
 use Rattle.journal_laws.specs.Holds.{Follows}
 use Rattle.journal_laws.specs.Moves.{put_steps, bring_steps}
@@ -105,14 +105,30 @@ module _ (shape : Shape) (p : Plan) (sends : List Send) where
   abbrev finish : List ClientTask
   finish = record { change = moves.Finish; facts = []; sends = sends } ∷ []
 
+  abbrev ends : List ClientTask
+  ends = keeps shape.after ++ finish
+
+  ends_not_last : is_last_task ends ≡ false
+  ends_not_last = not_last (keeps shape.after) finish refl
+
+  puts_not_last : (o : Option TableChange) → is_last_task (put_tasks p o ends) ≡ false
+  puts_not_last None = not_last (row_task p p.row) (table_task p p.position ++ ends) (not_last (table_task p p.position) ends ends_not_last)
+  puts_not_last (Some change) = refl
+
   rest_not_last : is_last_task (rest_of shape p sends) ≡ false
-  rest_not_last = not_last (row_task p p.row) (table_task p p.position ++ (keeps shape.after ++ finish)) (not_last (table_task p p.position) (keeps shape.after ++ finish) (not_last (keeps shape.after) finish refl))
+  rest_not_last = puts_not_last p.alters
+
+  ends_owed : OwedTasks AtCommit [] sends ends
+  ends_owed = quiet_front AtCommit sends (keeps shape.after) finish (keeps_quiet shape.after) refl (refl, refl, tt)
+
+  changes_owed : (o : Option TableChange) → OwedTasks AtCommit [] sends (put_tasks p o ends)
+  changes_owed None =
+      quiet_front AtCommit sends (row_task p p.row) (table_task p p.position ++ ends) (row_quiet p p.row) (not_last (table_task p p.position) ends ends_not_last)
+      (quiet_front AtCommit sends (table_task p p.position) ends (table_quiet p p.position) ends_not_last ends_owed)
+  changes_owed (Some change) = quiet_front AtCommit sends (only (moves.PutTable p) ∷ []) ends (refl, refl, tt) ends_not_last ends_owed
 
   rest_owed : OwedTasks AtCommit [] sends (rest_of shape p sends)
-  rest_owed =
-      quiet_front AtCommit sends (row_task p p.row) (table_task p p.position ++ (keeps shape.after ++ finish)) (row_quiet p p.row) (not_last (table_task p p.position) (keeps shape.after ++ finish) (not_last (keeps shape.after) finish refl))
-      (quiet_front AtCommit sends (table_task p p.position) (keeps shape.after ++ finish) (table_quiet p p.position) (not_last (keeps shape.after) finish refl)
-      (quiet_front AtCommit sends (keeps shape.after) finish (keeps_quiet shape.after) refl (refl, refl, tt)))
+  rest_owed = changes_owed p.alters
 
   abbrev commit_on : List ClientTask
   commit_on = record { change = moves.Commit p; facts = told p; sends = [] } ∷ rest_of shape p sends

@@ -38,7 +38,7 @@ at disk tasks = record { disk = disk; agenda = Some tasks }
 -- ---- what the step table makes of these moves
 
 -- a move that doesn't need the link
-no_link : {X : Type 0} (up : Bool) (x y : X) → (if not up && false then x else y) ≡ y
+pub no_link : {X : Type 0} (up : Bool) (x y : X) → (if not up && false then x else y) ≡ y
 no_link true x y = refl
 no_link false x y = refl
 

@@ -19,7 +19,7 @@ use Rattle.client_journal.specs.Standing.{devs, writes_of, MayDoAll, AreUp, IsRe
 use Rattle.client_journal.specs.Unset.{AreFresh}
 use Rattle.step_tables.specs.Facts.{Fact, Answer}
 use Rattle.step_tables.specs.Messages.{Send}
-use Rattle.step_tables.specs.ClientMoves.{Plan, RowPut, ClientDisk, ClientTask, Client, Shape, told, planning, begun, keeps, row_task, table_task, rest_of, only}
+use Rattle.step_tables.specs.ClientMoves.{Plan, RowPut, TableChange, ClientDisk, ClientTask, Client, Shape, told, planning, begun, keeps, row_task, table_task, put_tasks, rest_of, only}
 use Rattle.step_tables.specs.ClientMoves as moves
 use Rattle.journal_laws.specs.Holds.{IsPlanOf, IsPlanAt, Stands, Follows}
 use Rattle.journal_laws.specs.Moves.{IsPlanShape}
@@ -36,6 +36,7 @@ use Rattle.client_node.specs.Node.{AreOwed, FollowsFor, StayFit, facts_owed, sen
 use Rattle.client_node.specs.Calls.{IsBehind}
 use Rattle.client_node.specs.Begins.{next_number, BeginsPlan}
 use Rattle.client_node.proofs.Fitting.{plan_stays_fit, plan_number, rows_fit_before, rows_fit_behind}
+use Rattle.client_node.proofs.KeptRows.{keeps_rows}
 use Rattle.client_node.proofs.Owing.{owed_by, planning_owed}
 use Rattle.client_node.proofs.Steadies.{steady_more}
 
@@ -57,12 +58,16 @@ pub steady_table : (w : Waiting) (p : Plan) (o : Option ℕ) → IsSteadyPlan w 
 steady_table w p None s = tt
 steady_table w p (Some position) s = (s, tt)
 
+-- and so are its puts
+pub steady_puts : (w : Waiting) (p : Plan) (o : Option TableChange) (more : List ClientTask) → IsSteadyPlan w p → AreSteady w more → AreSteady w (put_tasks p o more)
+steady_puts w p None more s m = steady_append w (row_task p p.row) (table_task p p.position ++ more) (steady_row w p p.row s) (steady_append w (table_task p p.position) more (steady_table w p p.position s) m)
+steady_puts w p (Some change) more s m = (s, m)
+
 pub steady_planning : (w : Waiting) (shape : Shape) (p : Plan) (sends : List Send) → IsSteadyPlan w p → AreSteady w (planning shape p sends)
 steady_planning w shape p sends s =
     let last : List ClientTask = record { change = moves.Finish; facts = []; sends = sends } ∷ [] in
     let ends : AreSteady w (keeps shape.after ++ last) = steady_append w (keeps shape.after) last (steady_keeps w shape.after) (tt, tt) in
-    let tabled : AreSteady w (table_task p p.position ++ (keeps shape.after ++ last)) = steady_append w (table_task p p.position) (keeps shape.after ++ last) (steady_table w p p.position s) ends in
-    let rest : AreSteady w (rest_of shape p sends) = steady_append w (row_task p p.row) (table_task p p.position ++ (keeps shape.after ++ last)) (steady_row w p p.row s) tabled in
+    let rest : AreSteady w (rest_of shape p sends) = steady_puts w p p.alters (keeps shape.after ++ last) s ends in
     steady_append w (keeps shape.before) (record { change = moves.Commit p; facts = told p; sends = [] } ∷ rest_of shape p sends) (steady_keeps w shape.before) (s, rest)
 
 -- what holds behind the last of some writes
@@ -103,7 +108,7 @@ module _ {D : Type 0} (state : D → DiskState) (old : ClientNode D) (disk : Cli
 
   pub plan_behind : (new : ClientNode D) (plan : Begun) (p : Plan) (shape : Shape) (answer : Answer) (sends : List Send) (meaning : LocalName → List ℕ) → IsPlanned new plan p sends → IsPlan here plan → Stands old.number meaning here disk → AreFitRows meaning (redone here)
       → IfSome plan.row (IsFitChange meaning (next_number st old.devs) plan.brought (record_of here.held plan.table))
-      → IsPlanOf (meaning_with meaning (next_number st old.devs) plan.brought) old.number (commit_for (next_number st old.devs) plan) p → IsPlanAt disk p → IsPlanShape shape plan.brought plan.drops → IsBehind state old new (begun shape disk answer p sends)
+      → IsPlanOf (meaning_with meaning (next_number st old.devs) plan.brought) old.number (commit_for (next_number st old.devs) plan) p → IsPlanAt disk plan.new_record p → IsPlanShape shape plan.brought plan.drops → IsBehind state old new (begun shape disk answer p sends)
   plan_behind new plan p shape answer sends meaning k j stands fit change of at s =
       let number : ℕ = next_number st old.devs in
       let means = meaning_with meaning number plan.brought in
@@ -118,7 +123,7 @@ module _ {D : Type 0} (state : D → DiskState) (old : ClientNode D) (disk : Cli
       let is : IsPlanNumber number = plan_number (devs st new.devs) here.held number plan plan.brought may in
       let stays : StayFit means (devs st new.devs) (writes_of new.devs) =
       plan_stays_fit means here.held (rows_fit_before old.number meaning here disk stands at_rest number newest fit plan) (commit_for number plan)
-      (rows_fit_behind old.number meaning here disk stands at_rest number newest fit plan of.no_record is change) (devs st new.devs) (writes_of new.devs) runs in
+      (rows_fit_behind old.number meaning here disk stands at_rest number newest fit plan (keeps_rows old.number meaning here disk stands number plan p of at) is change) (devs st new.devs) (writes_of new.devs) runs in
       let w : IsWorking state new disk tasks = record {
         declared = k.declared;
         up = k.devices;

@@ -1,23 +1,20 @@
 -- What a client makes of a row from the Store.
-use Rattle.std.proofs.Common.{◌≡◌, ℕ, ◌+◌, ◌<◌, ◌≤◌, Bool, true, false, List, [], ◌∷◌, length, Option, Some, None, Result, Ok, Err, refl, sym, ◌∙◌, ap, subst, arith, eqb-true}
+use Rattle.std.proofs.Common.{◌≡◌, ℕ, ◌+◌, ◌<◌, ◌≤◌, Bool, true, false, List, [], ◌∷◌, Option, Some, None, Result, Ok, Err, refl, sym, ◌∙◌, ap, subst, arith, eqb-true}
 use Rattle.std.specs.Prelude.{◌==◌, ◌^◌, ◌&&◌, nat_le, OnOk, IfOk, IfSome, IsSome, option_map, if◌then◌else◌}
-use Rattle.std.specs.List.{AllByRecursion}
 use Rattle.std.proofs.lemmas.Bool.Decides.{nat_tests}
 use Rattle.stab_base.specs.declared.limits.TheConstants.{NUMBER_MAX}
 use Rattle.row_value.specs.Fit.{fit_of}
-use Rattle.held_value.specs.declared.local_name.LocalName.{LocalName}
 use Rattle.held_value.specs.declared.slots.Slots.{Slots as HeldSlots}
 use Rattle.held_value.specs.declared.tell.Tell.{Tell}
 use Rattle.slot_store.specs.declared.held.TableRecord.{TableRecord}
 use Rattle.slot_store.specs.Data.{record_of}
 use Rattle.field_codec.specs.Forms.{IsOption}
 use Rattle.plan_log.specs.declared.plan.RowChange.{RowChange}
+use Rattle.plan_log.specs.declared.plan.RecordChange.{RecordChange}
 use Rattle.plan_log.specs.Spelling.{IsTable, IsPosition}
 use Rattle.client_tables.specs.Change.{seen_in}
 use Rattle.client_journal.specs.Devs.{ClientDevs}
-use Rattle.client_journal.specs.Names.{Has}
-use Rattle.client_journal.specs.NamedSlots.{AreDifferent, names_before, names_behind}
-use Rattle.client_journal.specs.Plan.{IsPlan, chunk_most}
+use Rattle.client_journal.specs.Plan.{IsPlan}
 use Rattle.client_journal.specs.Redone.{redone}
 use Rattle.step_tables.specs.declared.message.Message.TheVariants as kinds
 use Rattle.step_tables.specs.declared.message.PullResponse.{PullResponse}
@@ -27,7 +24,7 @@ use Rattle.step_tables.specs.Facts as facts
 use Rattle.step_tables.specs.Messages.{Header, Pulled, Send}
 use Rattle.step_tables.specs.ClientMoves.{TableDisk, Plan, ClientDisk, Shape, table_at, slots_at, seen, begun, ignored, top, row_plan, row_placed, position_plan, next_pull, row_taken, comes_next, pulled_taken, pulled_in}
 use Rattle.step_tables.specs.Travels.{header_of as table_header, pulled_of, message_of}
-use Rattle.journal_laws.specs.Holds.{Say}
+use Rattle.journal_laws.specs.Holds.{Say, StandsChange}
 use Rattle.journal_laws.proofs.Becomes.{plain_plan_of}
 use Rattle.plan_limits.specs.Fit.{IsFitChange}
 use Rattle.plan_limits.specs.Short.{IsRowless, IsShort, AreFewTells}
@@ -39,6 +36,7 @@ use Rattle.client_node.specs.Answers.{record_at, held_at}
 use Rattle.client_node.specs.Placing.{IsWhole, IsNext, IsOfPosition, PlansRow, plan_at}
 use Rattle.client_node.specs.Readied.{IsReadied, IsIdleAt, Readies, taken_at}
 use Rattle.client_node.specs.Taking.{FitsTable, FitsClient}
+use Rattle.client_node.proofs.BarePlans.{bare_plan}
 use Rattle.client_node.proofs.RowReady.{seen_is, newest, last_is, closed_now, steady_here}
 use Rattle.client_node.proofs.RowsTaken.{both_true, opened_as, fits_back, fits_now, fit_there, fit_found, named_there, named_found, seen_at}
 
@@ -151,43 +149,19 @@ module _ (d : ClientDevs) (c : ℕ) (pulled : PullResponse) where
             short : IsShort planned.plan
             short = rowless_short planned.plan rowless
 
-            no_names : names_behind planned.plan.row ≡ []
-            no_names = ap names_behind o.no_row
-
-            none_before : names_before d.held planned.plan.table planned.plan.row ≡ []
-            none_before = ap (names_before d.held planned.plan.table) o.no_row
-
-            no_name : {P : Type 0} (l : List LocalName) (name : LocalName) → l ≡ [] → Has l name → P
-            no_name l name is has = absurd (let none : Has [] name = subst (λ (x : List LocalName). Has x name) is has in cc)
-
-            none_brought : {P : Type 0} (ordinal : ℕ) → ordinal < length planned.plan.brought → P
-            none_brought ordinal less = absurd (let none : ordinal < length {A = List ℕ} [] = subst (λ (x : List (List ℕ)). ordinal < length x) o.brought less in omega (arith, none))
-
             is_plan : IsPlan d planned.plan
-            is_plan = record {
-              brought = λ name has zero. no_name (names_behind planned.plan.row) name no_names has;
-              all_brought = λ ordinal less. none_brought ordinal less;
-              kept = λ name k. no_name (names_behind planned.plan.row) name no_names k.named;
-              dropped = λ name has. no_name planned.plan.drops name o.drops has;
-              all_dropped = λ name has n. no_name (names_before d.held planned.plan.table planned.plan.row) name none_before has;
-              different = subst AreDifferent (sym o.drops) tt;
-              there = λ name has. no_name planned.plan.drops name o.drops has;
-              spelled = short.spelled;
-              short = short.short;
-              chunks = subst (AllByRecursion (λ bytes. length bytes ≤ chunk_most)) (sym o.brought) tt;
-              few = short.few;
-            }
+            is_plan = bare_plan d planned.plan o.no_row o.brought o.drops short
 
             moved : IsReadied d c idle.stands.0 disk planned (position_plan c disk pulled.table pulled.to) (next_pull c pulled.table q)
             moved = record {
               taken = is_plan;
-              its = plain_plan_of c idle.stands.0 d disk (d.journal.greatest + 1) idle.stands.1 idle.rests (newest c d disk idle.stands idle.rests) planned.plan (position_plan c disk pulled.table pulled.to) is_plan o.table_is (o.last_is ∙ last_is c d disk idle.stands idle.rests) o.position_is o.new_record o.no_row refl
+              its = plain_plan_of c idle.stands.0 d disk (d.journal.greatest + 1) idle.stands.1 idle.rests (newest c d disk idle.stands idle.rests) planned.plan (position_plan c disk pulled.table pulled.to) is_plan o.table_is (o.last_is ∙ last_is c d disk idle.stands idle.rests) o.position_is (subst (λ (r : Option RecordChange). StandsChange r (position_plan c disk pulled.table pulled.to) None) (sym o.new_record) tt) o.no_row refl
                   (subst (λ (l : List Tell). Say c pulled.table None l (facts.Position c pulled.table pulled.to ∷ [])) (sym o.tells) refl);
               at = record { last = omega arith; opened = subst (λ (x : Option TableDisk). IsSome x) (sym (opened_as d c pulled.table found opened w disk idle).1) refl };
               few = idle.steady.few;
               tells = o.facts_are;
               sends_are = o.sends_are;
-              new_record = o.new_record;
+              alters = tt;
               fit = subst (λ (r : Option RowChange). IfSome r (IsFitChange idle.stands.0 (d.journal.greatest + 1) planned.plan.brought (record_of d.held planned.plan.table))) (sym o.no_row) tt;
             }
 

@@ -25,7 +25,7 @@ use Rattle.step_tables.specs.Facts.{Fact}
 use Rattle.step_tables.specs.Facts as facts
 use Rattle.step_tables.specs.Messages.{Send}
 use Rattle.step_tables.specs.Lines.{fact_of}
-use Rattle.step_tables.specs.ClientMoves.{Plan, Shape, ClientDisk, ClientTask, Client, no_shape, started, resumed, opening, ending, told_at_start, told_without, keeps, rest_of, row_task, table_task}
+use Rattle.step_tables.specs.ClientMoves.{Plan, Shape, ClientDisk, ClientTask, Client, no_shape, started, resumed, opening, ending, told_at_start, told_without, keeps, rest_of, row_task, table_task, put_tasks, TableChange}
 use Rattle.step_tables.specs.ClientMoves as moves
 use Rattle.journal_laws.specs.Holds.{Stands, Follows}
 use Rattle.journal_laws.specs.Moves.{drop_steps}
@@ -54,7 +54,7 @@ use Rattle.client_node.proofs.Falling.{MayHold, fallen, fallen_leaves}
 use Rattle.client_node.proofs.Fitting.{start_stays_fit}
 use Rattle.client_node.proofs.HeldNoted.{steady_held}
 use Rattle.client_node.proofs.Owing.{AreQuiet, OwedTasks, is_last_task, owed_by, none_told, none_left, keeps_quiet, row_quiet, table_quiet}
-use Rattle.client_node.proofs.Planned.{steady_keeps, steady_append, steady_row, steady_table}
+use Rattle.client_node.proofs.Planned.{steady_keeps, steady_append, steady_puts}
 use Rattle.client_node.proofs.OwnFaults.{own_kept, own_failed}
 use Rattle.client_node.proofs.PlanNumbers.{plans_lost, plans_started}
 use Rattle.client_node.proofs.Working.{IsKept}
@@ -65,11 +65,14 @@ quiet_both : (xs ys : List ClientTask) → AreQuiet xs → AreQuiet ys → AreQu
 quiet_both [] ys a b = b
 quiet_both (x ∷ xs) ys a b = (a.0, a.1, quiet_both xs ys a.2 b)
 
+puts_quiet : (p : Plan) (o : Option TableChange) (more : List ClientTask) → AreQuiet more → AreQuiet (put_tasks p o more)
+puts_quiet p None more q = quiet_both (row_task p p.row) (table_task p p.position ++ more) (row_quiet p p.row) (quiet_both (table_task p p.position) more (table_quiet p p.position) q)
+puts_quiet p (Some change) more q = (refl, refl, q)
+
 rest_quiet : (shape : Shape) (p : Plan) → AreQuiet (rest_of shape p [])
 rest_quiet shape p =
     let last : List ClientTask = record { change = moves.Finish; facts = []; sends = [] } ∷ [] in
-    quiet_both (row_task p p.row) (table_task p p.position ++ (keeps shape.after ++ last)) (row_quiet p p.row)
-    (quiet_both (table_task p p.position) (keeps shape.after ++ last) (table_quiet p p.position) (quiet_both (keeps shape.after) last (keeps_quiet shape.after) (refl, refl, tt)))
+    puts_quiet p p.alters (keeps shape.after ++ last) (quiet_both (keeps shape.after) last (keeps_quiet shape.after) (refl, refl, tt))
 
 opening_quiet : (shape : Shape) (o : Option Plan) → AreQuiet (opening shape o)
 opening_quiet shape None = quiet_both (keeps shape.before) (keeps shape.after) (keeps_quiet shape.before) (keeps_quiet shape.after)
@@ -105,8 +108,7 @@ opening_steady w shape None s = steady_append w (keeps shape.before) (keeps shap
 opening_steady w shape (Some p) s =
     let last : List ClientTask = record { change = moves.Finish; facts = []; sends = [] } ∷ [] in
     let ends : AreSteady w (keeps shape.after ++ last) = steady_append w (keeps shape.after) last (steady_keeps w shape.after) (tt, tt) in
-    let tabled : AreSteady w (table_task p p.position ++ (keeps shape.after ++ last)) = steady_append w (table_task p p.position) (keeps shape.after ++ last) (steady_table w p p.position s) ends in
-    steady_append w (keeps shape.before) (rest_of shape p []) (steady_keeps w shape.before) (steady_append w (row_task p p.row) (table_task p p.position ++ (keeps shape.after ++ last)) (steady_row w p p.row s) tabled)
+    steady_append w (keeps shape.before) (rest_of shape p []) (steady_keeps w shape.before) (steady_puts w p p.alters (keeps shape.after ++ last) s ends)
 
 -- what holds behind the last of a start's writes
 redone_end : (meaning : LocalName → List ℕ) (before : SlotData) (d : ClientDevs) (ws : List Write) → Runs (IsRedoing meaning before) d ws → IsAtRest (changed_by_all d ws)

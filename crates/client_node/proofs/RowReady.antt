@@ -37,11 +37,11 @@ use Rattle.client_journal.specs.Redone.{redone}
 use Rattle.client_journal.specs.Standing.{devs}
 use Rattle.step_tables.specs.Facts.{Fact, ClientFact}
 use Rattle.step_tables.specs.Facts as facts
-use Rattle.step_tables.specs.ClientMoves.{TableDisk, RowPut, Plan, ClientDisk, Slots, table_at, slots_at, slots_in, seen, planned_in, told}
+use Rattle.step_tables.specs.ClientMoves.{TableDisk, TableChange, RowPut, Plan, ClientDisk, Slots, table_at, slots_at, slots_in, seen, planned_in, told}
 use Rattle.step_tables.specs.Lines.{fact_of}
 use Rattle.step_tables.specs.Messages.{Send}
 use Rattle.step_tables.specs.Travels.{send_of}
-use Rattle.journal_laws.specs.Holds.{Stands, StandsPlan, StandsTable, IsRecordOf, IsPlanOf, IsPlanAt, Say, slots_or_empty, empty, fact_in, fact_alone}
+use Rattle.journal_laws.specs.Holds.{Stands, StandsPlan, StandsTable, IsRecordOf, IsPlanOf, IsPlanAt, IsTableFor, Say, slots_or_empty, empty, fact_in, fact_alone}
 use Rattle.journal_laws.specs.Moves.{Plans, PlansChange, HoldsEvent, plan_meaning}
 use Rattle.journal_laws.specs.Whole.{whole_slots, AreHeld}
 use Rattle.journal_laws.proofs.Becomes.{before_whole, before_held, row_plan_of}
@@ -60,7 +60,7 @@ use Rattle.client_node.specs.Begins.{next_number}
 use Rattle.client_node.specs.Node.{StandsFor}
 use Rattle.client_node.specs.Readied.{IsPlanFor, IsOfRow, IsReadied, IsIdleAt, IsIdle}
 use Rattle.client_node.specs.Tells.{told_fact, facts_told, with_position}
-use Rattle.client_node.specs.Steady.{IsSteady, IsSteadyTable}
+use Rattle.client_node.specs.Steady.{IsSteady, IsSteadyAlter, IsSteadyTable}
 use Rattle.client_node.proofs.RowPlans.{redone_rests, names_same, rising_different, row_plan_is, IsLimited}
 
 -- ---- what is told
@@ -324,11 +324,11 @@ module _ (c : ℕ) (d : ClientDevs) (disk : ClientDisk) (s : StandsFor c d disk)
             event_readied tells sends sends_are = record {
               taken = is_plan;
               its = its;
-              at = record { last = subst (λ (n : ℕ). disk.last ≤ n) (sym p_last) least; opened = subst (λ (n : ℕ). is_opened n) (sym p_table) opened_some };
+              at = record { last = subst (λ (n : ℕ). disk.last ≤ n) (sym p_last) least; opened = subst (λ (o : Option TableChange). IsTableFor planned.plan.new_record (table_at disk p.table) o) (sym plans.alters) (subst (λ (n : ℕ). is_opened n) (sym p_table) opened_some) };
               few = subst (λ (n : ℕ). n ≤ NUMBER_MAX) (sym p_last) most;
               tells = tells;
               sends_are = sends_are;
-              new_record = o.new_record;
+              alters = subst (λ (o : Option TableChange). IsSteadyAlter p.table o) (sym plans.alters) tt;
               fit = subst (λ (r : Option RowChange). IfSome r (IsFitChange meaning number planned.plan.brought (record_of d.held planned.plan.table))) (sym o.row_is) fit_change;
             }
               where

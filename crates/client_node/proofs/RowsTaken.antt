@@ -247,6 +247,7 @@ module _ (c : ℕ) (means : LocalName → List ℕ) (disk : ClientDisk) (table :
         position_is = refl;
         plans = record {
           put = at_zero.put;
+          alters = refl;
           tells = front_said c table (record { row = row; slots = put_by.slots }) change.tells put_by.facts 0 at_zero.tells;
         };
       }

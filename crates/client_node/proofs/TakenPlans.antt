@@ -147,6 +147,7 @@ module _ {D : Type 0} (state : D → DiskState) (images : D → ℕ → List ℕ
           steady_plan : IsSteadyPlan new.waiting p
           steady_plan = record {
             few = r.few;
+            alters = r.alters;
             noted = subst (λ (n : ℕ). IfSome p.row (λ put. IsNoted new.waiting n put.row put.slots)) r.its.table
                 (noted_plan new.waiting (meaning_with idle_at.stands.0 (next_number st old.devs) planned.plan.brought) (next_number st old.devs) planned.plan.table planned.plan.row p.row r.its.row c.noted);
           }

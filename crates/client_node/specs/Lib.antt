@@ -30,3 +30,5 @@ pub mod Editing
 pub mod Carrying
 pub mod Noting
 pub mod Syncing
+pub mod Closed
+pub mod Altering

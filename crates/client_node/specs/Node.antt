@@ -7,8 +7,6 @@ use Rattle.std.specs.BTreeSet.{keys}
 use Rattle.row_value.specs.declared.schema.Schema.{Schema}
 use Rattle.value_codec.specs.SchemaSpelling.{HasSchemaSpelling}
 use Rattle.plan_log.specs.Spelling.{IsTable}
-use Rattle.vault.specs.Limit.{payload_most}
-use Rattle.slot_store.specs.Spelling.{record_payload}
 use Rattle.disk_trait.specs.Calls.{DiskState}
 use Rattle.disk_trait.specs.Fuse.{behind, inner_of}
 use Rattle.vault.specs.Standing.{disk_of}
@@ -23,15 +21,14 @@ use Rattle.client_journal.specs.Standing.{devs, writes_of, step_of, AreUp, AreSo
 use Rattle.client_journal.specs.Unset.{AreFresh}
 use Rattle.step_tables.specs.Facts.{Fact}
 use Rattle.step_tables.specs.Messages.{Send}
-use Rattle.step_tables.specs.ClientMoves.{TableDisk, ClientDisk, ClientTask, Client, changed}
+use Rattle.step_tables.specs.ClientMoves.{TableDisk, ClientDisk, ClientTask, Client, changed, opened_table}
 use Rattle.step_tables.specs.Travels.{send_of}
 use Rattle.journal_laws.specs.Holds.{Stands, Follows}
-use Rattle.journal_laws.specs.Moves.{opened_table, opened_record}
 use Rattle.plan_limits.specs.Fit.{AreFitRows}
 use Rattle.gathering.specs.Room.{HasRoom}
 use Rattle.step_tables.specs.Lines.{fact_of}
 use Rattle.client_node.specs.Due.{is_last_of, told_at, left_at, sent_at}
-use Rattle.client_node.specs.Steady.{IsSteady, AreSteady}
+use Rattle.client_node.specs.Steady.{IsShortSchema, IsSteady, AreSteady}
 use Rattle.client_node.specs.Waiting.{NoneNoted}
 use Rattle.client_node.specs.declared.node.ClientNode.{ClientNode}
 use Rattle.client_node.specs.declared.owed.Owed.{Owed}
@@ -64,11 +61,11 @@ AreOwed when owed sends ws tasks = ⊥
 
 -- ---- the node
 
--- a table that a declaration opens, whose record has a spelling that isn't too long
+-- a table that a declaration or a call opens, whose schema has a spelling that isn't too long
 pub record IsToOpen (table : ℕ × Schema) : Type 0 where
   pub numbered : IsTable table.0
   pub spelled : HasSchemaSpelling table.1
-  pub short : length (record_payload (opened_record table.0 table.1)) ≤ payload_most
+  pub short : IsShortSchema table.1
 
 -- the tables that a declaration opens, without a row
 abbrev pub opened_all : List (ℕ × TableDisk) → List (ℕ × Schema) → List (ℕ × TableDisk)

@@ -20,7 +20,7 @@ use Rattle.step_tables.specs.Travels.{message_of, send_of}
 use Rattle.journal_laws.specs.Holds.{Stands, IsPlanOf, IsPlanAt}
 use Rattle.plan_limits.specs.Fit.{AreFitRows, IsFitChange}
 use Rattle.client_node.specs.Node.{StandsFor}
-use Rattle.client_node.specs.Steady.{IsSteady}
+use Rattle.client_node.specs.Steady.{IsSteady, IsSteadyAlter}
 use Rattle.client_node.specs.Tells.{facts_told, with_position}
 use Rattle.client_node.specs.Taking.{FitsClient}
 use Rattle.client_node.specs.declared.planning.Planned.{Planned}
@@ -87,11 +87,11 @@ pub record IsReadied (d : ClientDevs) (c : ℕ) (meaning : LocalName → List �
   pub taken : IsPlan d planned.plan
   pub its : IsPlanOf (meaning_with meaning (number_next d) planned.plan.brought) c
       (commit_for (number_next d) planned.plan) p
-  pub at : IsPlanAt disk p
+  pub at : IsPlanAt disk planned.plan.new_record p
   pub few : p.last ≤ NUMBER_MAX
   pub tells : map fact_of planned.facts.items ≡ told p
   pub sends_are : map send_of planned.messages.items ≡ sends
-  pub new_record : planned.plan.new_record ≡ None
+  pub alters : IsSteadyAlter p.table p.alters
   pub fit : IfSome planned.plan.row (IsFitChange meaning (number_next d) planned.plan.brought
       (record_of d.held planned.plan.table))
 

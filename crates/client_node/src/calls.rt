@@ -1,5 +1,7 @@
 //! The calls of a client.
+mod altering;
 mod choosing;
+mod closed;
 mod editing;
 pub(crate) mod held;
 mod listing;

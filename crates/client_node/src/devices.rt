@@ -16,8 +16,10 @@ use slot_store::TableRecord;
 use stab_base::TableNo;
 use std::alloc::AllocError;
 
-// The state of an opened table.
-const OPENED: u8 = 1;
+/// The states of a table's record.
+pub(crate) const OPENED: u8 = 1;
+
+pub(crate) const CLOSED: u8 = 2;
 
 // The record of a table without a row.
 fn opened(table: &(TableNo, Schema)) -> Result<TableRecord, AllocError>

@@ -280,11 +280,13 @@ fn chunks_behind<D: Disk + Drop>(
     Ok((read, conflict))
 }
 
-// What holds the content of a row, against what the client holds of it, with the Store's names of its chunks.
+// What holds the content of a row, against what the client holds of it, with the Store's names of its chunks, of which
+// those up to a version were kept.
 fn hold_row<D: Disk + Drop>(
     alloc: Global,
     devs: &mut Journal<D>,
     size: u32,
+    version: Version,
     slots: &Slots,
     content: &Content,
     names: &ObjectNames,
@@ -306,8 +308,17 @@ fn hold_row<D: Disk + Drop>(
     know_names(names.as_slice());
     let shown = chunks_of(alloc, devs, shown_content(slots))?;
     let (read, conflict) = chunks_behind(alloc, devs, slots)?;
-    let held = hold_kept(alloc, size, shown, read, conflict, content, names)?;
+    let held = hold_kept(alloc, size, version, shown, read, conflict, content, names)?;
     Ok(held)
+}
+
+// Up to which version the Store keeps chunks of a row back: up to the table's position where the row answers a pull, which
+// moves it, and none where the row was asked for whole.
+fn kept_up_to(opened: &TableRecord, position: Option<Version>) -> Version {
+    match position {
+        Some(_) => opened.position,
+        None => 0,
+    }
 }
 
 /// The plan of a row that is newer than the one that was read, with the chunks that it brings, a new position of its
@@ -338,7 +349,16 @@ pub(crate) fn plan_row<D: Disk + Drop>(
 {
     let last = last_write(devs)?;
     let size = opened.schema.chunk;
-    let held = hold_row(alloc, devs, size, slots, &header.content, &header.names)?;
+    let kept = kept_up_to(opened, position);
+    let held = hold_row(
+        alloc,
+        devs,
+        size,
+        kept,
+        slots,
+        &header.content,
+        &header.names,
+    )?;
     let version = of_64_bits(header.version);
     let row = Shadow {
         version,

@@ -150,6 +150,8 @@ fn table_fact(client: ClientNo, table: TableNo, tell: Tell) -> Option<ClientFact
             table,
             position,
         }),
+        Tell::Opened => Some(ClientFact::Opened { client, table }),
+        Tell::Dropped => Some(ClientFact::Dropped { client, table }),
         _ => None,
     }
 }

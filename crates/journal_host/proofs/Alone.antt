@@ -14,7 +14,7 @@ use Rattle.step_tables.specs.Messages as messages
 use Rattle.step_tables.specs.ClientMoves.{ClientTask, Client, ClientMove, ClientStep, Shape, Take, Start, Crash, client_step, is_cut_off, kept_out, no_shape}
 use Rattle.step_tables.proofs.Lists.{lookup-insert_nat}
 use Rattle.world_tables.specs.World.{World, WorldStep, Moved, Outbox, client_at, client_tasks, move_client, still, failing, answering, answered, refused, reads, unless_kept, unless_cut, is_resolving, calls, call, call_there, to_there, started, starts_by}
-use Rattle.world_tables.specs.World.{and_then, client_falls, move_there, tasks_in, client_follows, client_follows_from, client_until_idle, gets_tasks, first_luck, other_lucks, is_down, is_client_down, is_cut, has_node, client_works}
+use Rattle.world_tables.specs.World.{unless_closed, is_closed, table_of_move, closed_answer, and_then, client_falls, move_there, tasks_in, client_follows, client_follows_from, client_until_idle, gets_tasks, first_luck, other_lucks, is_down, is_client_down, is_cut, has_node, client_works}
 use Rattle.journal_host.specs.Moves.{then_moves, agenda_in, move_alone, alone_there, call_alone, take_there, take_alone, starts_alone, start_alone, has_work}
 
 -- ---- moves behind others
@@ -142,20 +142,32 @@ module _ (w : World) (c : ℕ) (move : ClientMove) (shape : Shape) (lucks : List
     by_kept (Some r) = sym (then_none (refused w r) (behind node) (none_follows node.agenda c (other_lucks lucks) w (as_it_was w c node is)))
     by_kept None = by_cut is_off
 
+    -- whether the table is closed, and what is answered then
+    abbrev shut : Bool
+    shut = is_closed node (table_of_move move)
+
+    abbrev says_shut : facts.Answer
+    says_shut = closed_answer shape (is_cut w c) node.agenda move
+
+    by_shut : (b : Bool) → unless_closed w b says_shut (unless_kept w kept (unless_cut w is_off (calls w c move shape (other_lucks lucks) node)))
+        ≡ then_moves (unless_closed w b says_shut (unless_kept w kept (unless_cut w is_off (move_alone w c move shape node)))) (behind node)
+    by_shut true = sym (then_none (answered w says_shut) (behind node) (none_follows node.agenda c (other_lucks lucks) w (as_it_was w c node is)))
+    by_shut false = by_kept kept
+
     failed_read : answering facts.Done (failing (client_falls c w)) ≡ then_moves (answering facts.Done (failing (client_falls c w))) (behind node)
     failed_read = sym (then_none (answering facts.Done (failing (client_falls c w))) (behind node)
         (none_follows node.agenda c (other_lucks lucks) (client_falls c w).world (fell w c node node.agenda is)))
 
-    by_luck : (luck : Luck) → reads w c luck (unless_kept w kept (unless_cut w is_off (calls w c move shape (other_lucks lucks) node)))
-        ≡ then_moves (reads w c luck (unless_kept w kept (unless_cut w is_off (move_alone w c move shape node)))) (behind node)
-    by_luck messages.Done = by_kept kept
+    by_luck : (luck : Luck) → reads w c luck (unless_closed w shut says_shut (unless_kept w kept (unless_cut w is_off (calls w c move shape (other_lucks lucks) node))))
+        ≡ then_moves (reads w c luck (unless_closed w shut says_shut (unless_kept w kept (unless_cut w is_off (move_alone w c move shape node))))) (behind node)
+    by_luck messages.Done = by_shut shut
     by_luck messages.FailedBefore = failed_read
     by_luck messages.FailedAfter = failed_read
 
     by_down : (b : Bool) → (if b then refused w (facts.NodeDown (nodes.Client c)) else reads w c (first_luck lucks)
-        (unless_kept w kept (unless_cut w is_off (calls w c move shape (other_lucks lucks) node))))
+        (unless_closed w shut says_shut (unless_kept w kept (unless_cut w is_off (calls w c move shape (other_lucks lucks) node)))))
         ≡ then_moves (if b then refused w (facts.NodeDown (nodes.Client c)) else reads w c (first_luck lucks)
-        (unless_kept w kept (unless_cut w is_off (move_alone w c move shape node)))) (behind node)
+        (unless_closed w shut says_shut (unless_kept w kept (unless_cut w is_off (move_alone w c move shape node))))) (behind node)
     by_down true = sym (then_none (refused w (facts.NodeDown (nodes.Client c))) (behind node) (none_follows node.agenda c (other_lucks lucks) w (as_it_was w c node is)))
     by_down false = by_luck (first_luck lucks)
 
@@ -166,28 +178,32 @@ module _ (w : World) (c : ℕ) (move : ClientMove) (shape : Shape) (lucks : List
 
   -- ---- what holds behind the move
 
-  module _ (P : WorldStep → Type 0) (refuses : (r : facts.Refusal) → P (refused w r)) (falls : P (answering facts.Done (failing (client_falls c w))))
+  module _ (P : WorldStep → Type 0) (stays : (a : facts.Answer) → P (answered w a)) (falls : P (answering facts.Done (failing (client_falls c w))))
       (moves : (node : Client) → client_at w c ≡ Some node → P (move_alone w c move shape node)) where
     pub alone_cases : (o : Option Client) → client_at w c ≡ o → P (alone_there w c move shape lucks o)
-    alone_cases None is = refuses facts.NoTable
+    alone_cases None is = stays (facts.Refuses facts.NoTable)
     alone_cases (Some node) is = down (is_down w (nodes.Client c))
       where
         cut : (b : Bool) → P (unless_cut w b (move_alone w c move shape node))
-        cut true = refuses facts.Offline
+        cut true = stays (facts.Refuses facts.Offline)
         cut false = moves node is
 
         keep : (o : Option facts.Refusal) → P (unless_kept w o (unless_cut w (is_off node is) (move_alone w c move shape node)))
-        keep (Some r) = refuses r
+        keep (Some r) = stays (facts.Refuses r)
         keep None = cut (is_off node is)
 
-        read : (luck : Luck) → P (reads w c luck (unless_kept w (kept node is) (unless_cut w (is_off node is) (move_alone w c move shape node))))
-        read messages.Done = keep (kept node is)
+        close : (b : Bool) → P (unless_closed w b (says_shut node is) (unless_kept w (kept node is) (unless_cut w (is_off node is) (move_alone w c move shape node))))
+        close true = stays (says_shut node is)
+        close false = keep (kept node is)
+
+        read : (luck : Luck) → P (reads w c luck (unless_closed w (shut node is) (says_shut node is) (unless_kept w (kept node is) (unless_cut w (is_off node is) (move_alone w c move shape node)))))
+        read messages.Done = close (shut node is)
         read messages.FailedBefore = falls
         read messages.FailedAfter = falls
 
         down : (b : Bool) → P (if b then refused w (facts.NodeDown (nodes.Client c)) else reads w c (first_luck lucks)
-            (unless_kept w (kept node is) (unless_cut w (is_off node is) (move_alone w c move shape node))))
-        down true = refuses (facts.NodeDown (nodes.Client c))
+            (unless_closed w (shut node is) (says_shut node is) (unless_kept w (kept node is) (unless_cut w (is_off node is) (move_alone w c move shape node)))))
+        down true = stays (facts.Refuses (facts.NodeDown (nodes.Client c)))
         down false = read (first_luck lucks)
 
   pub alone_holds : (call_alone w c move shape lucks).world.holds ≡ w.holds
@@ -227,7 +243,7 @@ module _ (w : World) (c : ℕ) (move : ClientMove) (shape : Shape) (lucks : List
       out None is none = refl
       out (Some node) is none =
           ap (λ (b : Bool). (if b then refused w (facts.NodeDown (nodes.Client c)) else reads w c (first_luck lucks)
-          (unless_kept w (kept node is) (unless_cut w (is_off node is) (move_alone w c move shape node)))).world)
+          (unless_closed w (shut node is) (says_shut node is) (unless_kept w (kept node is) (unless_cut w (is_off node is) (move_alone w c move shape node))))).world)
           (ap is_client_down is ∙ ap (λ (a : Option (List ClientTask)). is_client_down (Some (record node { agenda = a }))) none)
 
       go : (agenda : Option (List ClientTask)) → agenda_in (client_at w c) ≡ agenda → client_follows_from agenda c (other_lucks lucks) after ≡ client_until_idle c (other_lucks lucks) after

@@ -25,7 +25,7 @@ use Rattle.client_node.specs.Node.{IsClient, IsNode, told_by, has_task, HasPlans
 use Rattle.client_node.proofs.PlanNumbers.{next_below}
 use Rattle.client_node.specs.Linked.{linked_step, phased_step, unless_kept as kept_step}
 use Rattle.client_node.specs.Phases.{is_open}
-use Rattle.world_tables.specs.World.{World, WorldStep, Packet, owner_of, client_at, is_cut, is_resolving, is_down, is_client_down, is_fault, first_luck, move_client, answered, refused, reads, unless_kept, unless_cut, packets_from, client_tasks, tasks_in}
+use Rattle.world_tables.specs.World.{World, WorldStep, Packet, owner_of, client_at, is_cut, is_resolving, is_down, is_client_down, is_fault, first_luck, move_client, answered, refused, reads, unless_kept, unless_cut, unless_closed, is_closed, table_of_move, closed_answer, packets_from, client_tasks, tasks_in}
 use Rattle.journal_host.specs.declared.asking.Request.{Request}
 use Rattle.journal_host.specs.declared.asking.Request.TheVariants as requests
 use Rattle.journal_host.specs.declared.fault.ClientFault.{ClientFault}
@@ -34,11 +34,11 @@ use Rattle.journal_host.specs.Asks.{asked_by, AreAsked, FitsDisk, FitsAt, FitsIn
 use Rattle.table_model.specs.declared.line.RowPair.{RowPair}
 use Rattle.journal_host.specs.Holds.{IsHosted, ClientThere, HasClients, HasPhases, HavePhases, HoldsClients, KeepsClients, AreClients, outs_in, AreSameOuts, node_faults, faults_in, faults_at, SameFaults, RisenFaults, HavePlansBelow}
 use Rattle.journal_host.specs.Phases.{SamePhases, MovesPhases, answer_in}
-use Rattle.journal_host.specs.Steps.{HasTold, IsMade, IsFallen, IsDropped, HasNodeCause, HasAnswerCause}
+use Rattle.journal_host.specs.Steps.{HasTold, IsMade, IsFallen, IsDropped, HasNodeCause, HasAnswerCause, guarded_step}
 use Rattle.journal_host.specs.Calls.{IsMoved, IsCalled, Comes, Stays, HasCause, HasMoveCause, HasLuck, IsNumberCause}
 use Rattle.journal_host.specs.Moves.{move_alone, alone_there, call_alone, take_there, take_alone, has_work}
 use Rattle.journal_host.proofs.Lists.{no_more}
-use Rattle.journal_host.proofs.Phased.{LeavesPhases, refusal_leaves, moves_as, open_stays, kept_same, phases_at, phases_same, phases_moved}
+use Rattle.journal_host.proofs.Phased.{LeavesPhases, refusal_leaves, shut_leaves, moves_as, open_stays, kept_same, phases_at, phases_same, phases_moved}
 
 pub at_same : (k q : ℕ) → is_at (nat_cmp k) q ≡ true → k ≡ q
 at_same k q h = eqb-true k q (sym (unsigned_tied k q) ∙ h)
@@ -178,6 +178,10 @@ module _ {D : Type 0} (state : D → DiskState) (w : World) (old new : ClientHos
     abbrev alone : Shape → WorldStep
     alone shape = unless_kept w (kept shape) (unless_cut w (is_cut w c && is_cut_off c shape s move) (move_alone w c move shape s))
 
+    -- where the table isn't closed
+    abbrev guarded : Shape → WorldStep
+    guarded shape = unless_closed w (is_closed s (table_of_move move)) (closed_answer shape (is_cut w c) s.agenda move) (alone shape)
+
     move_alone_done : (shape : Shape) (answer : Answer) → HasTold state (is_cut w c) c (client_step c shape s move) after old.outs.items new.outs.items
         → (client_step c shape s move).answer ≡ answer_of answer → MovesPhases move (answer_of answer) node after → IsCalled state old new (move_alone w c move shape s) answer
     move_alone_done shape answer t is k =
@@ -221,10 +225,24 @@ module _ {D : Type 0} (state : D → DiskState) (w : World) (old new : ClientHos
         by (Some r) t is = refused_done r answer is t k
         by None t is = link_called shape answer t is k
 
+    guarded_called : (shape : Shape) (answer : Answer) → HasTold state (is_cut w c) c (guarded_step (is_open node) (is_cut w c) c shape s move) after old.outs.items new.outs.items
+        → (guarded_step (is_open node) (is_cut w c) c shape s move).answer ≡ answer_of answer → MovesPhases move (answer_of answer) node after
+        → IsCalled state old new (guarded shape) answer
+    guarded_called shape answer t is k = by (is_closed s (table_of_move move)) t is
+      where
+        by : (b : Bool) → HasTold state (is_cut w c) c (if b then quiet s.disk s.agenda (closed_answer shape (is_cut w c) s.agenda move) else phased_step (is_open node) (not (is_cut w c)) c shape s move)
+            after old.outs.items new.outs.items
+            → (if b then quiet s.disk s.agenda (closed_answer shape (is_cut w c) s.agenda move) else phased_step (is_open node) (not (is_cut w c)) c shape s move).answer ≡ answer_of answer
+            → IsCalled state old new (unless_closed w b (closed_answer shape (is_cut w c) s.agenda move) (alone shape)) answer
+        by true t is = nothing_done (closed_answer shape (is_cut w c) s.agenda move) answer is t
+            (open_stays state node after s.disk s.agenda move (closed_answer shape (is_cut w c) s.agenda move) hosted.client t.behind.client
+            (shut_leaves shape (is_cut w c) s.agenda move) (subst (λ (a : facts.Answer). MovesPhases move a node after) (sym is) k))
+        by false t is = made_called shape answer t is k
+
     -- ---- by whether it is up
 
     abbrev body : Shape → List Luck → WorldStep
-    body shape lucks = reads w c (first_luck lucks) (alone shape)
+    body shape lucks = reads w c (first_luck lucks) (guarded shape)
 
     up_called : (shape : Shape) (lucks : List Luck) (answer : Answer) → is_client_down (client_at w c) ≡ false → IsCalled state old new (body shape lucks) answer
         → IsCalled state old new (alone_there w c move shape lucks (Some s)) answer
@@ -232,7 +250,7 @@ module _ {D : Type 0} (state : D → DiskState) (w : World) (old new : ClientHos
 
     pub is_made : (answer : Answer) → is_client_down (client_at w c) ≡ false → IsMade state (is_open node) (is_cut w c) c s move after old.outs.items new.outs.items answer
         → MovesPhases move (answer_of answer) node after → (shape : Shape) × (lucks : List Luck) × IsCalled state old new (alone_there w c move shape lucks (Some s)) answer
-    is_made answer up k m = (k.shape, [], up_called k.shape [] answer up (made_called k.shape answer k.told k.answer_is m))
+    is_made answer up k m = (k.shape, [], up_called k.shape [] answer up (guarded_called k.shape answer k.told k.answer_is m))
 
     pub is_fallen : (answer : Answer) → is_client_down (client_at w c) ≡ false → IsFallen state (is_cut w c) c s after old.outs.items new.outs.items answer
         → MovesPhases move (facts.Refuses facts.NoDevice) node after → (shape : Shape) × (lucks : List Luck) × IsCalled state old new (alone_there w c move shape lucks (Some s)) answer
@@ -307,6 +325,10 @@ module _ {D : Type 0} (state : D → DiskState) (w : World) (old new : ClientHos
       (λ m. is_fallen state w old new c node after h is u there.0 there.1 move there.2 answer (up_there up) m
       (subst (λ (a : Answer). MovesPhases move (answer_of a) node after) m.answer_is p)) k)
 
+  so_there : {X Y : Type 0} → node.is_up ≡ true → (node.is_up ≡ true → X) ⊎ Y → X ⊎ Y
+  so_there up (inl x) = inl (x up)
+  so_there up (inr y) = inr y
+
   fits_there : FitsIn w c request → FitsDisk there.0.disk request
   fits_there fits = subst (λ (o : Option Client). FitsAt o request) there.1 fits
 
@@ -320,29 +342,31 @@ module _ {D : Type 0} (state : D → DiskState) (w : World) (old new : ClientHos
 
   module _ (r : Result Answer ClientFault) (moves : (s : Option Client) → MovesPhases (asked_by s request) (answer_in r) node after)
       (down : node.is_up ≡ false → (after ≡ node) × (new.outs.items ≡ old.outs.items) × IfOk r (λ answer. answer ≡ answers.Refused (refusals.Down (nodes.Client c)))) where
-    pub client_called : ((cut : Bool) (s : Client) → IsHosted state cut c s node → FitsDisk s.disk request → node.is_up ≡ true
-        → IfOk r (λ answer. IsMade state (is_open node) cut c s (asked_by (Some s) request) after old.outs.items new.outs.items answer ⊎ IsFallen state cut c s after old.outs.items new.outs.items answer))
+    pub client_called : ((cut : Bool) (s : Client) → IsHosted state cut c s node → FitsDisk s.disk request
+        → IfOk r (λ answer. (node.is_up ≡ true → IsMade state (is_open node) cut c s (asked_by (Some s) request) after old.outs.items new.outs.items answer)
+        ⊎ IsFallen state cut c s after old.outs.items new.outs.items answer))
         → FitsIn w c request → IfOk r Calls
-    client_called made fits = by node.is_up refl r (moves (Some there.0)) (λ up. made (is_cut w c) there.0 there.2 (fits_there fits) up) (λ d. (down d).2)
+    client_called made fits = by node.is_up refl r (moves (Some there.0)) (made (is_cut w c) there.0 there.2 (fits_there fits)) (λ d. (down d).2)
       where
         by : (b : Bool) → node.is_up ≡ b → (r : Result Answer ClientFault) → MovesPhases move (answer_in r) node after
-            → (node.is_up ≡ true → IfOk r (λ answer. IsMade state (is_open node) (is_cut w c) c there.0 move after old.outs.items new.outs.items answer
-            ⊎ IsFallen state (is_cut w c) c there.0 after old.outs.items new.outs.items answer))
+            → IfOk r (λ answer. (node.is_up ≡ true → IsMade state (is_open node) (is_cut w c) c there.0 move after old.outs.items new.outs.items answer)
+            ⊎ IsFallen state (is_cut w c) c there.0 after old.outs.items new.outs.items answer)
             → (node.is_up ≡ false → IfOk r (λ answer. answer ≡ answers.Refused (refusals.Down (nodes.Client c)))) → IfOk r Calls
         by b is (Err e) p made says = tt
-        by true is (Ok answer) p made says = when_up answer is p (made is)
+        by true is (Ok answer) p made says = when_up answer is p (so_there is made)
         by false is (Ok answer) p made says = when_down (λ d. let x = down d in (x.0, x.1)) answer is (says is)
 
-    pub client_dropped : ((cut : Bool) (s : Client) → IsHosted state cut c s node → (FitsDisk s.disk request → ⊥) → node.is_up ≡ true
+    pub client_dropped : ((cut : Bool) (s : Client) → IsHosted state cut c s node → (FitsDisk s.disk request → ⊥)
         → IfOk r (λ answer. IsDropped state cut c s after old.outs.items new.outs.items answer
-        ⊎ (IsMade state (is_open node) cut c s (asked_by (Some s) request) after old.outs.items new.outs.items answer ⊎ IsFallen state cut c s after old.outs.items new.outs.items answer)))
+        ⊎ ((node.is_up ≡ true → IsMade state (is_open node) cut c s (asked_by (Some s) request) after old.outs.items new.outs.items answer)
+        ⊎ IsFallen state cut c s after old.outs.items new.outs.items answer)))
         → (FitsIn w c request → ⊥) → IfOk r (λ answer. ((answer ≡ answers.Done) × Stays state w old new) ⊎ Calls answer)
-    client_dropped made unfit = by node.is_up refl r (moves (Some there.0)) (λ up. made (is_cut w c) there.0 there.2 (λ fits. unfit (fits_back fits)) up) (λ d. (down d).2)
+    client_dropped made unfit = by node.is_up refl r (moves (Some there.0)) (made (is_cut w c) there.0 there.2 (λ fits. unfit (fits_back fits))) (λ d. (down d).2)
       where
         by : (b : Bool) → node.is_up ≡ b → (r : Result Answer ClientFault) → MovesPhases move (answer_in r) node after
-            → (node.is_up ≡ true → IfOk r (λ answer. IsDropped state (is_cut w c) c there.0 after old.outs.items new.outs.items answer
-            ⊎ (IsMade state (is_open node) (is_cut w c) c there.0 move after old.outs.items new.outs.items answer
-            ⊎ IsFallen state (is_cut w c) c there.0 after old.outs.items new.outs.items answer)))
+            → IfOk r (λ answer. IsDropped state (is_cut w c) c there.0 after old.outs.items new.outs.items answer
+            ⊎ ((node.is_up ≡ true → IsMade state (is_open node) (is_cut w c) c there.0 move after old.outs.items new.outs.items answer)
+            ⊎ IsFallen state (is_cut w c) c there.0 after old.outs.items new.outs.items answer))
             → (node.is_up ≡ false → IfOk r (λ answer. answer ≡ answers.Refused (refusals.Down (nodes.Client c))))
             → IfOk r (λ answer. ((answer ≡ answers.Done) × Stays state w old new) ⊎ Calls answer)
         by b up (Err e) p made says = tt
@@ -356,7 +380,7 @@ module _ {D : Type 0} (state : D → DiskState) (w : World) (old new : ClientHos
                 outs = λ owners. x.told.outs owners ∙ append-nil (outs_in owners old.outs.items);
               },
             ))
-            (λ x. inr (when_up answer up p x)) (made up)
+            (λ x. inr (when_up answer up p (so_there up x))) made
         by false up (Ok answer) p made says = inr (when_down (λ d. let x = down d in (x.0, x.1)) answer up (says up))
 
     pub client_kept : ((cut : Bool) (s : Client) → IsHosted state cut c s node → OnErr r (IsHosted state cut c s after × AreSameOuts old.outs.items new.outs.items))

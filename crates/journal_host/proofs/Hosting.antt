@@ -14,7 +14,7 @@ use Rattle.step_tables.specs.Facts as facts
 use Rattle.step_tables.specs.Lines.{answer_of, refusal_of}
 use Rattle.step_tables.specs.Messages.{Luck, Send}
 use Rattle.step_tables.specs.Messages as messages
-use Rattle.step_tables.specs.ClientMoves.{ClientDisk, ClientTask, Client, ClientStep, ClientMove, Shape, Conflicts, Work, Crash, Start, client_step, no_shape, quiet, is_cut_off, kept_out, table_at, seen}
+use Rattle.step_tables.specs.ClientMoves.{ClientDisk, ClientTask, Client, ClientStep, ClientMove, Shape, Opens, Closes, Conflicts, Work, Crash, Start, client_step, no_shape, quiet, is_cut_off, kept_out, table_at, seen}
 use Rattle.client_node.specs.declared.fault.CallFault.{CallFault}
 use Rattle.client_node.specs.declared.fault.CallFault.TheVariants as call
 use Rattle.client_node.specs.declared.node.ClientNode.{ClientNode}
@@ -36,9 +36,9 @@ use Rattle.journal_host.specs.declared.out.ClientOut.{ClientOut}
 use Rattle.journal_host.specs.Asks.{move_of, asked_by, FitsDisk, as_answer, refused_as, answered_as}
 use Rattle.journal_host.specs.Calls.{IsNumberCause}
 use Rattle.journal_host.specs.Holds.{IsHosted, outs_in, AreSameOuts, said, node_faults}
-use Rattle.journal_host.specs.Steps.{HasMade, HasDropped, Replies, IsTelling, HasTold, IsMade, IsListing, IsFallen, IsDropped, IsStarted, IsNotStarted, IsDeviceFault, HasNodeCause, HasAnswerCause, outbox_at}
+use Rattle.journal_host.specs.Steps.{HasMade, HasDropped, Replies, IsTelling, HasTold, IsMadeOpen, IsListing, IsFallen, IsDropped, IsStarted, IsNotStarted, IsDeviceFault, HasNodeCause, HasAnswerCause, outbox_at}
 use Rattle.journal_host.proofs.Replying.{same_err, replies_any}
-use Rattle.journal_host.proofs.Refusals.{RefusesOnly, kept_only, write_only, edit_only, show_only, sum_only, sync_only, next_only, phase_only, conflicts_only, resolve_only, all_only, take_only}
+use Rattle.journal_host.proofs.Refusals.{RefusesOnly, kept_only, write_only, edit_only, show_only, sum_only, sync_only, next_only, phase_only, conflicts_only, resolve_only, all_only, alter_only, take_only}
 
 -- ---- what it is asked for, it refuses and does nothing else
 
@@ -61,6 +61,8 @@ asked_only c shape d tasks (requests.Resolvable table by) = all_only shape d tas
 asked_only c shape d tasks (requests.ResolveBy table row version by) =
     resolve_only c shape d tasks table row version (chosen_of by row (Some (record { disk = d; agenda = Some tasks })) table) (table_at (seen d) table)
 asked_only c shape d tasks (requests.AskWhole table tears rows) = next_only c shape d tasks table tears rows (table_at (seen d) table)
+asked_only c shape d tasks (requests.Open table schema) = alter_only c shape d tasks table (Opens schema)
+asked_only c shape d tasks (requests.Close table) = alter_only c shape d tasks table Closes
 
 -- the same of one whose link may be down
 linked_only : (up : Bool) (c : ℕ) (shape : Shape) (d : ClientDisk) (tasks : List ClientTask) (move : ClientMove)
@@ -140,7 +142,7 @@ module _ {D : Type 0} (state : D → DiskState) (images : D → ℕ → List ℕ
   s = record { disk = d; agenda = Some tasks }
 
   made : (shape : Shape) (answer : Answer) → IsBehind state old mid (step_with old shape s move) → (step_with old shape s move).answer ≡ answer_of answer
-      → IsMade state (is_open old) cut c s move new before after answer
+      → IsMadeOpen state (is_open old) cut c s move new before after answer
   made shape answer b is = let same = step_is state cut c s old h shape move in record {
     shape = shape;
     told = tells (phased_step (is_open old) (not cut) c shape s move)
@@ -150,7 +152,7 @@ module _ {D : Type 0} (state : D → DiskState) (images : D → ℕ → List ℕ
 
   -- a refusal is the step of its move
   refused : (shape : Shape) (r : Refusal) → Stays state old mid s → (step_with old shape s move).answer ≡ facts.Refuses (refusal_of r)
-      → IsMade state (is_open old) cut c s move new before after (answers.Refused r)
+      → IsMadeOpen state (is_open old) cut c s move new before after (answers.Refused r)
   refused shape r k is =
       let same = step_is state cut c s old h shape move in
       let here : (phased_step (is_open old) (not cut) c shape s move).answer ≡ facts.Refuses (refusal_of r) = ap (λ (x : ClientStep). x.answer) (sym same) ∙ is in
@@ -172,13 +174,13 @@ module _ {D : Type 0} (state : D → DiskState) (images : D → ℕ → List ℕ
   module _ (done_so : Answer → Type 0) where
     -- one that refused, or fell
     badly : (e : CallFault) → Replies state images s move old mid done_so (Err e)
-        → IfOk (refused_as e) (λ answer. IsMade state (is_open old) cut c s move new before after answer ⊎ IsFallen state cut c s new before after answer)
+        → IfOk (refused_as e) (λ answer. IsMadeOpen state (is_open old) cut c s move new before after answer ⊎ IsFallen state cut c s new before after answer)
     badly e k = by e (k.kept) (k.fallen) (λ r is. k.refused (refusal_of r) (shape_of state old).0 is (shape_of state old).1)
       where
         by : (e : CallFault) → ((IsErrOf {T = Answer} (Err e) call.Disk → ⊥) → Stays state old mid s)
             → (IsErrOf {T = Answer} (Err e) call.Disk → Stays state old mid (record { disk = d; agenda = None }))
             → ((r : Refusal) → refusal_in e ≡ Some (refusal_of r) → (step_with old (shape_of state old).0 s move).answer ≡ facts.Refuses (refusal_of r))
-            → IfOk (refused_as e) (λ answer. IsMade state (is_open old) cut c s move new before after answer ⊎ IsFallen state cut c s new before after answer)
+            → IfOk (refused_as e) (λ answer. IsMadeOpen state (is_open old) cut c s move new before after answer ⊎ IsFallen state cut c s new before after answer)
         by call.NoTable kept fell was = inl (refused (shape_of state old).0 refusals.NoTable (kept (λ bad. absurd cc)) (was refusals.NoTable refl))
         by (call.BadCell column) kept fell was = inl (refused (shape_of state old).0 (refusals.BadCell column) (kept (λ bad. absurd cc)) (was (refusals.BadCell column) refl))
         by (call.BadObject column len) kept fell was = inl (refused (shape_of state old).0 (refusals.BadObject column len) (kept (λ bad. absurd cc)) (was (refusals.BadObject column len) refl))
@@ -198,18 +200,18 @@ module _ {D : Type 0} (state : D → DiskState) (images : D → ℕ → List ℕ
         by call.Memory kept fell was = tt
 
   pub called : (r : Result Answer CallFault) → Replies state images s move old mid (HasMade state s move old mid) r
-      → IfOk (answered_as r) (λ answer. IsMade state (is_open old) cut c s move new before after answer ⊎ IsFallen state cut c s new before after answer)
+      → IfOk (answered_as r) (λ answer. IsMadeOpen state (is_open old) cut c s move new before after answer ⊎ IsFallen state cut c s new before after answer)
   called (Ok answer) k = let x = k.done in inl (made x.0 answer x.2 x.3)
   called (Err e) k = badly (HasMade state s move old mid) e k
 
   pub dropped : (r : Result Answer CallFault) → Replies state images s move old mid (HasDropped state s old mid) r
       → IfOk (answered_as r) (λ answer. IsDropped state cut c s new before after answer
-      ⊎ (IsMade state (is_open old) cut c s move new before after answer ⊎ IsFallen state cut c s new before after answer))
+      ⊎ (IsMadeOpen state (is_open old) cut c s move new before after answer ⊎ IsFallen state cut c s new before after answer))
   dropped (Ok answer) k = inl (record { told = tells (quiet d (Some tasks) facts.Done) (telling_none state cut c s old h mid d (Some tasks) facts.Done k.done.1); answer_is = k.done.0 })
   dropped (Err e) k = weaker (refused_as e) (badly (HasDropped state s old mid) e k)
     where
-      weaker : (a : Result Answer ClientFault) → IfOk a (λ answer. IsMade state (is_open old) cut c s move new before after answer ⊎ IsFallen state cut c s new before after answer)
-          → IfOk a (λ answer. IsDropped state cut c s new before after answer ⊎ (IsMade state (is_open old) cut c s move new before after answer ⊎ IsFallen state cut c s new before after answer))
+      weaker : (a : Result Answer ClientFault) → IfOk a (λ answer. IsMadeOpen state (is_open old) cut c s move new before after answer ⊎ IsFallen state cut c s new before after answer)
+          → IfOk a (λ answer. IsDropped state cut c s new before after answer ⊎ (IsMadeOpen state (is_open old) cut c s move new before after answer ⊎ IsFallen state cut c s new before after answer))
       weaker (Ok answer) k = inr k
       weaker (Err e) k = tt
 
@@ -332,7 +334,7 @@ module _ {D : Type 0} (state : D → DiskState) (images : D → ℕ → List ℕ
     (tells : (step : ClientStep) → IsTelling state cut c step mid → HasTold state cut c step new before after) (r : Result Answer CallFault) where
   pub call_made : (d : ClientDisk) (agenda : Option (List ClientTask)) → IsHosted state cut c (record { disk = d; agenda = agenda }) old → old.is_up ≡ true
       → Replies state images (record { disk = d; agenda = agenda }) (asked_by (Some (record { disk = d; agenda = agenda })) request) old mid (HasMade state (record { disk = d; agenda = agenda }) (asked_by (Some (record { disk = d; agenda = agenda })) request) old mid) r
-      → IfOk (answered_as r) (λ answer. IsMade state (is_open old) cut c (record { disk = d; agenda = agenda }) (asked_by (Some (record { disk = d; agenda = agenda })) request) new before after answer
+      → IfOk (answered_as r) (λ answer. IsMadeOpen state (is_open old) cut c (record { disk = d; agenda = agenda }) (asked_by (Some (record { disk = d; agenda = agenda })) request) new before after answer
       ⊎ IsFallen state cut c (record { disk = d; agenda = agenda }) new before after answer)
   call_made d None h up k = let down = h.client.at.0 in absurd cc
   call_made d (Some tasks) h up k = called state images cut c d tasks (asked_by (Some (record { disk = d; agenda = Some tasks })) request) (λ shape. asked_only c shape d tasks request) old mid new before after h tells r k
@@ -340,7 +342,7 @@ module _ {D : Type 0} (state : D → DiskState) (images : D → ℕ → List ℕ
   pub call_dropped : (d : ClientDisk) (agenda : Option (List ClientTask)) → IsHosted state cut c (record { disk = d; agenda = agenda }) old → old.is_up ≡ true
       → Replies state images (record { disk = d; agenda = agenda }) (asked_by (Some (record { disk = d; agenda = agenda })) request) old mid (HasDropped state (record { disk = d; agenda = agenda }) old mid) r
       → IfOk (answered_as r) (λ answer. IsDropped state cut c (record { disk = d; agenda = agenda }) new before after answer
-      ⊎ (IsMade state (is_open old) cut c (record { disk = d; agenda = agenda }) (asked_by (Some (record { disk = d; agenda = agenda })) request) new before after answer ⊎ IsFallen state cut c (record { disk = d; agenda = agenda }) new before after answer))
+      ⊎ (IsMadeOpen state (is_open old) cut c (record { disk = d; agenda = agenda }) (asked_by (Some (record { disk = d; agenda = agenda })) request) new before after answer ⊎ IsFallen state cut c (record { disk = d; agenda = agenda }) new before after answer))
   call_dropped d None h up k = let down = h.client.at.0 in absurd cc
   call_dropped d (Some tasks) h up k = dropped state images cut c d tasks (asked_by (Some (record { disk = d; agenda = Some tasks })) request) (λ shape. asked_only c shape d tasks request) old mid new before after h tells r k
 
@@ -385,7 +387,7 @@ module _ {D : Type 0} (state : D → DiskState) (images : D → ℕ → List ℕ
   -- these were listed, or none were, and listing_by refused or fell
   abbrev Lists : (d : ClientDisk) (agenda : Option (List ClientTask)) → (pairs none : List RowPair) → Answer → Type 0
   Lists d agenda pairs none answer = IsListing state (is_open old) cut c (record { disk = d; agenda = agenda }) table new before after pairs answer
-      ⊎ ((pairs ≡ none) × (IsMade state (is_open old) cut c (record { disk = d; agenda = agenda }) (Conflicts table) new before after answer
+      ⊎ ((pairs ≡ none) × (IsMadeOpen state (is_open old) cut c (record { disk = d; agenda = agenda }) (Conflicts table) new before after answer
       ⊎ IsFallen state cut c (record { disk = d; agenda = agenda }) new before after answer))
 
   module _ (d : ClientDisk) (tasks : List ClientTask) (h : IsHosted state cut c (record { disk = d; agenda = Some tasks }) old) where
@@ -413,7 +415,7 @@ module _ {D : Type 0} (state : D → DiskState) (images : D → ℕ → List ℕ
     lists_up pairs none (Err e) k same kept = by (refused_as e)
         (badly state images cut c d tasks (Conflicts table) one_only old mid new before after h tells (λ answer. Unit {0}) e (replies_any state images listing_by old mid (Conflicts table) (λ listed. facts.Pairs listed) gives (Err e) k))
       where
-        by : (a : Result Answer ClientFault) → IfOk a (λ answer. IsMade state (is_open old) cut c listing_by (Conflicts table) new before after answer ⊎ IsFallen state cut c listing_by new before after answer)
+        by : (a : Result Answer ClientFault) → IfOk a (λ answer. IsMadeOpen state (is_open old) cut c listing_by (Conflicts table) new before after answer ⊎ IsFallen state cut c listing_by new before after answer)
             → IfOk a (Lists d (Some tasks) pairs none)
         by (Ok answer) x = inr (kept, x)
         by (Err f) x = tt

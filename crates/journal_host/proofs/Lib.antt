@@ -1,6 +1,7 @@
 pub mod Lists
 pub mod Keeping
 pub mod Phased
+pub mod Shut
 pub mod Alone
 pub mod Refusals
 pub mod Replying
@@ -13,3 +14,4 @@ pub mod Cuts
 pub mod Draining
 pub mod Ends
 pub mod ReadyClients
+pub mod NodeCalls

@@ -1,5 +1,5 @@
 -- The rows in conflict that a client lists.
-use Rattle.std.proofs.Common.{◌≡◌, ◌⊎◌, ⊎_elim, ℕ, length, Bool, true, false, cond, List, [], Option, Some, None, Result, Ok, Err, refl, sym, ap, ◌∙◌, subst}
+use Rattle.std.proofs.Common.{◌≡◌, ◌⊎◌, inl, inr, ⊎_elim, ℕ, length, Bool, true, false, cond, List, [], Option, Some, None, Result, Ok, Err, refl, sym, ap, ◌∙◌, subst}
 use Rattle.std.specs.Prelude.{not, ◌&&◌, map, IfOk, OnErr, IfErr, if◌then◌else◌}
 use Rattle.std.specs.Ordering.{nat_cmp}
 use Rattle.std.specs.BTreeMap.{is_at}
@@ -19,12 +19,12 @@ use Rattle.client_node.specs.declared.node.ClientNode.{ClientNode}
 use Rattle.client_node.specs.Linked.{linked_step, phased_step, unless_kept as kept_step}
 use Rattle.client_node.specs.Node.{HasPlansBelow}
 use Rattle.client_node.specs.Phases.{is_open, KeepsPhases}
-use Rattle.world_tables.specs.World.{World, WorldStep, listed, client_at, is_cut, is_resolving, is_client_down, refused, unless_kept, unless_cut}
+use Rattle.world_tables.specs.World.{World, WorldStep, listed, client_at, is_cut, is_resolving, is_client_down, refused, unless_kept, unless_cut, unless_closed, is_closed, closed_answer}
 use Rattle.journal_host.specs.declared.fault.ClientFault.{ClientFault}
 use Rattle.journal_host.specs.declared.host.ClientHost.{ClientHost}
 use Rattle.journal_host.specs.Holds.{IsHosted, HoldsClients, AreSameOuts, HavePlansBelow}
 use Rattle.journal_host.specs.Phases.{MovesPhases}
-use Rattle.journal_host.specs.Steps.{HasTold, IsMade, IsListing, IsFallen}
+use Rattle.journal_host.specs.Steps.{HasTold, IsMade, IsListing, IsFallen, IsShut}
 use Rattle.journal_host.specs.Calls.{IsCalled, IsListed, Stays, IsNumberCause}
 use Rattle.journal_host.specs.Moves.{move_alone, alone_there, call_alone}
 use Rattle.journal_host.proofs.Lists.{no_more}
@@ -117,6 +117,9 @@ module _ {D : Type 0} (state : D → DiskState) (w : World) (old new : ClientHos
       (kept_same (is_open node) (is_resolving w c) (phases_at w old.clients c node h.phases is) (Conflicts table) (client_step c shape s (Conflicts table)).answer) in
       listing_kept shape pairs (kept shape) (subst (λ (x : ClientStep). HasTold state (is_cut w c) c x after old.outs.items new.outs.items) same t) (ap (λ (x : ClientStep). x.answer) (sym same) ∙ a)
 
+  abbrev guarded : Bool → Shape → WorldStep
+  guarded shut shape = unless_closed w shut (closed_answer shape (is_cut w c) s.agenda (Conflicts table)) (alone shape)
+
   -- ---- by whether it is up
 
   abbrev Listed : List RowPair → Answer → Type 0
@@ -134,10 +137,11 @@ module _ {D : Type 0} (state : D → DiskState) (w : World) (old new : ClientHos
   up_there : node.is_up ≡ true → is_client_down (client_at w c) ≡ false
   up_there up = ap is_client_down there.1 ∙ up_is state node s.disk s.agenda there.2.client up
 
-  when_listed : (pairs : List RowPair) (answer : Answer) → node.is_up ≡ true → IsListing state (is_open node) (is_cut w c) c s table after old.outs.items new.outs.items pairs answer → Listed pairs answer
-  when_listed pairs answer up k = at_client pairs answer k.shape []
-      (subst (λ (b : Bool). IsListed state old new (if b then refused w (facts.NodeDown (nodes.Client c)) else alone k.shape) pairs answer) (sym (up_there up))
-      (subst (λ (x : Answer). IsListed state old new (alone k.shape) pairs x) (sym k.answer_is) (listing_called k.shape pairs k.told k.pairs_are)))
+  when_listed : (pairs : List RowPair) (answer : Answer) → node.is_up ≡ true → IsShut s (Conflicts table) false → IsListing state (is_open node) (is_cut w c) c s table after old.outs.items new.outs.items pairs answer → Listed pairs answer
+  when_listed pairs answer up free k = at_client pairs answer k.shape []
+      (subst (λ (b : Bool). IsListed state old new (if b then refused w (facts.NodeDown (nodes.Client c)) else guarded (is_closed s (Some table)) k.shape) pairs answer) (sym (up_there up))
+      (subst (λ (b : Bool). IsListed state old new (guarded b k.shape) pairs answer) (sym free)
+      (subst (λ (x : Answer). IsListed state old new (alone k.shape) pairs x) (sym k.answer_is) (listing_called k.shape pairs k.told k.pairs_are))))
 
   when_not : (answer : Answer) → node.is_up ≡ true → IsMade state (is_open node) (is_cut w c) c s (Conflicts table) after old.outs.items new.outs.items answer
       ⊎ IsFallen state (is_cut w c) c s after old.outs.items new.outs.items answer → Listed [] answer
@@ -153,22 +157,23 @@ module _ {D : Type 0} (state : D → DiskState) (w : World) (old new : ClientHos
 
   module _ (r : Result Answer ClientFault) (pairs none : List RowPair) (is_none : none ≡ [])
       (down : node.is_up ≡ false → (after ≡ node) × (new.outs.items ≡ old.outs.items) × (pairs ≡ none) × IfOk r (λ answer. answer ≡ answers.Refused (refusals.Down (nodes.Client c)))) where
-    pub client_lists : ((cut : Bool) (s : Client) → IsHosted state cut c s node → node.is_up ≡ true
-        → IfOk r (λ answer. IsListing state (is_open node) cut c s table after old.outs.items new.outs.items pairs answer
-        ⊎ ((pairs ≡ none) × (IsMade state (is_open node) cut c s (Conflicts table) after old.outs.items new.outs.items answer ⊎ IsFallen state cut c s after old.outs.items new.outs.items answer))))
+    pub client_lists : ((cut : Bool) (s : Client) → IsHosted state cut c s node
+        → IfOk r (λ answer. (node.is_up ≡ true → IsShut s (Conflicts table) false × IsListing state (is_open node) cut c s table after old.outs.items new.outs.items pairs answer)
+        ⊎ ((pairs ≡ none) × ((node.is_up ≡ true → IsMade state (is_open node) cut c s (Conflicts table) after old.outs.items new.outs.items answer)
+        ⊎ IsFallen state cut c s after old.outs.items new.outs.items answer))))
         → IfOk r (Listed pairs)
-    client_lists made = by node.is_up refl r (λ up. made (is_cut w c) s there.2 up) (λ d. (down d).3)
+    client_lists made = by node.is_up refl r (made (is_cut w c) s there.2) (λ d. (down d).3)
       where
         nothing : (answer : Answer) → pairs ≡ none → Listed [] answer → Listed pairs answer
         nothing answer same k = subst (λ (l : List RowPair). Listed l answer) (sym (same ∙ is_none)) k
 
         by : (b : Bool) → node.is_up ≡ b → (r : Result Answer ClientFault)
-            → (node.is_up ≡ true → IfOk r (λ answer. IsListing state (is_open node) (is_cut w c) c s table after old.outs.items new.outs.items pairs answer
-            ⊎ ((pairs ≡ none) × (IsMade state (is_open node) (is_cut w c) c s (Conflicts table) after old.outs.items new.outs.items answer
-            ⊎ IsFallen state (is_cut w c) c s after old.outs.items new.outs.items answer))))
+            → IfOk r (λ answer. (node.is_up ≡ true → IsShut s (Conflicts table) false × IsListing state (is_open node) (is_cut w c) c s table after old.outs.items new.outs.items pairs answer)
+            ⊎ ((pairs ≡ none) × ((node.is_up ≡ true → IsMade state (is_open node) (is_cut w c) c s (Conflicts table) after old.outs.items new.outs.items answer)
+            ⊎ IsFallen state (is_cut w c) c s after old.outs.items new.outs.items answer)))
             → (node.is_up ≡ false → IfOk r (λ answer. answer ≡ answers.Refused (refusals.Down (nodes.Client c)))) → IfOk r (Listed pairs)
         by b up (Err e) made says = tt
-        by true up (Ok answer) made says = ⊎_elim (λ k. when_listed pairs answer up k) (λ k. nothing answer k.0 (when_not answer up k.1)) (made up)
+        by true up (Ok answer) made says = ⊎_elim (λ k. when_listed pairs answer up (k up).0 (k up).1) (λ k. nothing answer k.0 (when_not answer up (⊎_elim (λ m. inl (m up)) (λ m. inr m) k.1))) made
         by false up (Ok answer) made says = let d = down up in nothing answer d.2 (when_down answer up d.0 d.1 (says up))
 
   pub list_stays : (r : Result Answer ClientFault)

@@ -13,13 +13,13 @@ use Rattle.table_model.specs.declared.line.Answer.{Answer as Line}
 use Rattle.table_model.specs.declared.line.Answer.TheVariants as answers
 use Rattle.step_tables.specs.Facts.{Answer, Refusal}
 use Rattle.step_tables.specs.Facts as facts
-use Rattle.step_tables.specs.ClientMoves.{ClientDisk, ClientTask, ClientMove, BeginCr, EndCr, Conflicts, Write, Change, Resolve, ResolveAll, is_before_write, is_before_phase, if_open, if_closed, kept_out, phases_by}
+use Rattle.step_tables.specs.ClientMoves.{Shape, ClientDisk, ClientTask, ClientMove, Take, BeginCr, EndCr, Conflicts, Write, Change, Resolve, ResolveAll, is_before_write, is_before_phase, if_open, if_closed, kept_out, phases_by}
 use Rattle.client_node.specs.declared.node.ClientNode.{ClientNode}
 use Rattle.client_node.specs.Node.{IsClient}
 use Rattle.client_node.specs.declared.fault.CallFault.{CallFault}
 use Rattle.client_node.specs.declared.fault.CallFault.TheVariants as call
 use Rattle.client_node.specs.Phases.{is_open, KeepsPhases, BeginsPhase, EndsPhase}
-use Rattle.world_tables.specs.World.{World, is_resolving}
+use Rattle.world_tables.specs.World.{World, is_resolving, closed_answer}
 use Rattle.journal_host.specs.Holds.{HasPhases, HavePhases}
 use Rattle.journal_host.specs.Asks.{as_answer, refused_as, answered_as}
 use Rattle.journal_host.specs.Phases.{phase_behind, phase_left, SamePhases, MovesPhases, answer_in}
@@ -35,7 +35,14 @@ refusal_leaves (BeginCr t) r phase table = refl
 refusal_leaves (EndCr t) r phase table = refl
 refusal_leaves move r phase table = refl
 
-fault_leaves : (move : ClientMove) (e : CallFault) → LeavesPhases move (answer_in (refused_as e))
+-- so does what a client answers that has closed the table
+pub shut_leaves : (shape : Shape) (cut : Bool) (agenda : Option (List ClientTask)) (move : ClientMove) → LeavesPhases move (closed_answer shape cut agenda move)
+shut_leaves shape cut agenda (Take message) phase table = refl
+shut_leaves shape cut agenda (BeginCr t) phase table = refl
+shut_leaves shape cut agenda (EndCr t) phase table = refl
+shut_leaves shape cut agenda move phase table = refl
+
+pub fault_leaves : (move : ClientMove) (e : CallFault) → LeavesPhases move (answer_in (refused_as e))
 fault_leaves move call.NoTable = refusal_leaves move _
 fault_leaves move (call.BadCell column) = refusal_leaves move _
 fault_leaves move (call.BadObject column len) = refusal_leaves move _

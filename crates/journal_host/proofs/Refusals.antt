@@ -22,9 +22,10 @@ use Rattle.step_tables.specs.Messages.{Header, Message, Outcome, Pulled, Respons
 use Rattle.step_tables.specs.Messages as messages
 use Rattle.step_tables.specs.Chunks.{is_named}
 use Rattle.step_tables.specs.Sums.{by_digests, or_whole, sum_of}
-use Rattle.step_tables.specs.ClientMoves.{Slots, TableDisk, ClientDisk, ClientTask, ClientStep, Shape, RowOut, quiet, table_at, seen, slots_at, shown_in, show_answer, show_in, content_of, first_out, row_out, first_to_send, resent, top}
+use Rattle.step_tables.specs.ClientMoves.{Slots, TableDisk, ClientDisk, ClientTask, ClientStep, Shape, RowOut, quiet, table_at, seen, slots_at, shown_in, show_answer, show_in, first_out, row_out, first_to_send, resent, top}
 use Rattle.step_tables.specs.ClientMoves.{ClientMove, is_before_write, is_before_phase, kept_out, phase_in, conflicts_in, choose, over_fitting, resolve_over, resolve_in, all_in, all_fitting, all_idle, can_resolve}
 use Rattle.step_tables.specs.ClientMoves.{write_strong, write_by, write_free, write_idle, write_fitting, write_to, edit_made, edit_over, edit_in, sync_first, sync_in, next_in, outcome_taken, response_taken, response_in, row_taken, pulled_taken, pulled_in, torn_row_taken, torn_taken, torn_in, take_step}
+use Rattle.step_tables.specs.ClientMoves.{TableChange, alter_in, alter_plan, may_alter}
 use Rattle.step_tables.specs.ClientMoves as moves
 
 -- a step that answers by a refusal does nothing, and the refusal isn't that a device failed
@@ -182,6 +183,16 @@ resolve_only c shape d tasks table row version choice None = only_answers d task
 resolve_only c shape d (task ∷ more) table row version choice (Some opened) = only_answers d (task ∷ more) (facts.Refuses (facts.Busy shape.plan)) (λ bad. absurd cc)
 resolve_only c shape d [] table row version choice (Some opened) =
     resolve_over_only c shape d table row opened.schema (slots_at opened row) version choice (slots_at opened row).main (slots_at opened row).conflict
+
+-- ---- a table that is opened or closed
+
+pub alter_only : (c : ℕ) (shape : Shape) (d : ClientDisk) (tasks : List ClientTask) (table : ℕ) (change : TableChange) → RefusesOnly d tasks (alter_in c shape d tasks table change)
+alter_only c shape d (task ∷ more) table change = only_answers d (task ∷ more) (facts.Refuses (facts.Busy shape.plan)) (λ bad. absurd cc)
+alter_only c shape d [] table change = either (may_alter change (table_at (seen d) table))
+  where
+    either : (b : Bool) → RefusesOnly d [] (if b then moves.begun shape d facts.Done (alter_plan c d table change) [] else moves.ignored d)
+    either true = λ r is. absurd cc
+    either false = λ r is. absurd cc
 
 -- ---- what the phases keep a client from
 

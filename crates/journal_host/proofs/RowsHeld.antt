@@ -1,14 +1,12 @@
 -- What a client holds of a row, and which tables it has.
 use Rattle.std.proofs.Common.{◌≡◌, ℕ, Bool, true, false, cond, List, [], ◌∷◌, Option, Some, None, Result, Ok, refl, sym, ap, ◌∙◌, subst}
-use Rattle.std.specs.Prelude.{IfOk, IsErrOf, is_some, option_map}
+use Rattle.std.specs.Prelude.{IfOk, IsErrOf}
 use Rattle.std.specs.Ordering.{nat_cmp}
 use Rattle.std.specs.BTreeMap.{is_at}
 use Rattle.std.specs.BTreeMap as tree
 use Rattle.disk_trait.specs.Calls.{DiskState}
 use Rattle.step_tables.specs.Messages as messages
-use Rattle.step_tables.specs.ClientMoves.{Client, ClientDisk, ClientTask, Crash, client_step, no_shape, table_at, seen}
-use Rattle.client_node.specs.HeldRows.{row_held, OnlyReads}
-use Rattle.client_node.specs.declared.calls.held.RowHeld.{RowHeld}
+use Rattle.step_tables.specs.ClientMoves.{Client, ClientDisk, ClientTask, Crash, client_step, no_shape}
 use Rattle.client_node.specs.declared.fault.CallFault.{CallFault}
 use Rattle.client_node.specs.declared.fault.CallFault.TheVariants.{Disk}
 use Rattle.client_node.specs.declared.node.ClientNode.{ClientNode}
@@ -17,9 +15,9 @@ use Rattle.client_node.specs.Node.{IsClient}
 use Rattle.client_node.specs.Phases.{KeepsPhases}
 use Rattle.world_tables.specs.World.{World, client_at, client_falls, is_cut, is_client_down}
 use Rattle.journal_host.specs.declared.host.ClientHost.{ClientHost}
-use Rattle.journal_host.specs.Calls.{IsMoved, Stays, HasMoveCause, held_by, has_table}
+use Rattle.journal_host.specs.Calls.{IsMoved, Stays, HasMoveCause}
 use Rattle.journal_host.specs.Holds.{IsHosted, HoldsClients, outs_in, faults_at}
-use Rattle.journal_host.specs.Steps.{HasTold, HasNodeCause}
+use Rattle.journal_host.specs.Steps.{OnlyLooks, HasTold, HasNodeCause}
 use Rattle.journal_host.proofs.Lists.{no_more}
 use Rattle.journal_host.proofs.Clients.{found, not_found, down_is, move_done, held_still, nowhere_held}
 use Rattle.journal_host.proofs.Phased.{keeps_stays}
@@ -35,13 +33,13 @@ node_up {D} state w host c node h is up = pick node.is_up refl
         absurd (let down : is_client_down (client_at w c) ≡ true = ap is_client_down there.1 ∙ down_is state node there.0.disk there.0.agenda there.2.client so in let no : true ≡ false = sym down ∙ up in cc)
 
 -- what a call that only reads says of its disks
-pub reads_cause : {D T : Type 0} (state : D → DiskState) (images : D → ℕ → List ℕ → Type 0) (s : Client) (node after : ClientNode D) (r : Result T CallFault) → OnlyReads state images s node after r → HasNodeCause state node after r
-reads_cause state images s node after r k = record { counted = k.counted; cause = k.cause; only = k.only }
+pub looks_cause : {D T : Type 0} (state : D → DiskState) (s : Client) (node after : ClientNode D) (r : Result T CallFault) → OnlyLooks state s node after r → HasNodeCause state node after r
+looks_cause state s node after r k = record { counted = k.counted; cause = k.cause; only = k.only }
 
-module _ {D T : Type 0} (state : D → DiskState) (images : D → ℕ → List ℕ → Type 0) (w : World) (old new : ClientHost D) (c : ℕ) (node after : ClientNode D) (h : HoldsClients state w old)
+module _ {D T : Type 0} (state : D → DiskState) (w : World) (old new : ClientHost D) (c : ℕ) (node after : ClientNode D) (h : HoldsClients state w old)
     (is : Some node ≡ tree.get nat_cmp old.clients c)
     (u : (q : ℕ) → tree.get nat_cmp new.clients q ≡ cond (is_at (nat_cmp c) q) (Some after) (tree.get nat_cmp old.clients q)) (outs : new.outs.items ≡ old.outs.items) (r : Result T CallFault)
-    (reads : (s : Client) → IsClient state node s → OnlyReads state images s node after r) (keeps : KeepsPhases node after) where
+    (reads : (s : Client) → IsClient state node s → OnlyLooks state s node after r) (keeps : KeepsPhases node after) where
   there : (s : Client) × (client_at w c ≡ Some s) × IsHosted state (is_cut w c) c s node
   there = found state w old.clients c h.there node is
 
@@ -70,27 +68,17 @@ module _ {D T : Type 0} (state : D → DiskState) (images : D → ℕ → List �
       move_done state w old new c node after h is u there.0 there.1 (Crash messages.FailedBefore) no_shape
       (crash_told there.0.disk there.0.agenda (hosted (record { disk = there.0.disk; agenda = None }) t)) (λ up table. absurd (let no : true ≡ false = sym up ∙ down in cc))
 
--- what was found is what the world's client holds
-pub row_found : {D : Type 0} (state : D → DiskState) (w : World) (old : ClientHost D) (c table : ℕ) (row : List ℕ) (node : ClientNode D) → HoldsClients state w old → Some node ≡ tree.get nat_cmp old.clients c → (r : Result (Option RowHeld) CallFault)
-    → ((s : Client) → IsClient state node s → IfOk r (λ found. found ≡ option_map (row_held row) (table_at (seen s.disk) table))) → IfOk r (λ found. found ≡ held_by (client_at w c) table row)
-row_found state w old c table row node h is r held =
-    let there = found state w old.clients c h.there node is in
-    subst (λ (o : Option Client). IfOk r (λ found. found ≡ held_by o table row)) (sym there.1) (held there.0 there.2.client)
+-- what was found of a table is what the world's client has of it
+module _ {D T : Type 0} (state : D → DiskState) (w : World) (old : ClientHost D) (c : ℕ) (h : HoldsClients state w old) (of : Option Client → T) where
+  pub found_there : (node : ClientNode D) → Some node ≡ tree.get nat_cmp old.clients c → (r : Result T CallFault) → ((s : Client) → IsClient state node s → IfOk r (λ x. x ≡ of (Some s)))
+      → IfOk r (λ x. x ≡ of (client_at w c))
+  found_there node is r held =
+      let there = found state w old.clients c h.there node is in
+      subst (λ (o : Option Client). IfOk r (λ x. x ≡ of o)) (sym there.1) (held there.0 there.2.client)
 
--- one that isn't there holds none
-pub nowhere_held_row : {D : Type 0} (state : D → DiskState) (w : World) (old : ClientHost D) (c table : ℕ) (row : List ℕ) → HoldsClients state w old → None ≡ tree.get nat_cmp old.clients c → None ≡ held_by (client_at w c) table row
-nowhere_held_row state w old c table row h none = sym (ap (λ (o : Option Client). held_by o table row) (not_found state w old.clients c h.there none).0)
-
--- whether the table was found is whether the world's client has it
-pub table_found : {D : Type 0} (state : D → DiskState) (w : World) (old : ClientHost D) (c table : ℕ) (node : ClientNode D) → HoldsClients state w old → Some node ≡ tree.get nat_cmp old.clients c → (r : Result Bool CallFault)
-    → ((s : Client) → IsClient state node s → IfOk r (λ found. found ≡ is_some (table_at (seen s.disk) table))) → IfOk r (λ found. found ≡ has_table (client_at w c) table)
-table_found state w old c table node h is r held =
-    let there = found state w old.clients c h.there node is in
-    subst (λ (o : Option Client). IfOk r (λ found. found ≡ has_table o table)) (sym there.1) (held there.0 there.2.client)
-
--- one that isn't there has none
-pub nowhere_opened : {D : Type 0} (state : D → DiskState) (w : World) (old : ClientHost D) (c table : ℕ) → HoldsClients state w old → None ≡ tree.get nat_cmp old.clients c → false ≡ has_table (client_at w c) table
-nowhere_opened state w old c table h none = sym (ap (λ (o : Option Client). has_table o table) (not_found state w old.clients c h.there none).0)
+  -- and of one that isn't there as of none
+  pub found_nowhere : None ≡ tree.get nat_cmp old.clients c → of None ≡ of (client_at w c)
+  found_nowhere none = sym (ap of (not_found state w old.clients c h.there none).0)
 
 pub nowhere_stays : {D : Type 0} (state : D → DiskState) (w : World) (old new : ClientHost D) (c : ℕ) → HoldsClients state w old → None ≡ tree.get nat_cmp old.clients c → new.clients ≡ old.clients → new.outs.items ≡ old.outs.items → Stays state w old new
 nowhere_stays state w old new c h none same outs = record { held = nowhere_held state w old new c h none same outs; outs = λ owners. ap (outs_in owners) outs }

@@ -1,14 +1,16 @@
 -- What a client is asked for, as the moves of its step table.
-use Rattle.std.specs.Prelude.{◌≡◌, ◌≢◌, ℕ, List, [], Option, Some, None, Result, Ok, Err}
+use Rattle.std.specs.Prelude.{◌≡◌, ◌≢◌, ℕ, Bool, true, false, List, [], Option, Some, None, Result, Ok, Err}
 use Rattle.table_model.specs.declared.line.Answer.{Answer}
 use Rattle.table_model.specs.declared.line.Answer.TheVariants as answers
 use Rattle.table_model.specs.declared.line.Refusal.TheVariants as refusals
 use Rattle.table_model.specs.declared.line.RowPair.{RowPair}
 use Rattle.step_tables.specs.ClientMoves.{Client, ClientDisk, ClientMove, Write, Change, Show, Sum, Sync, Next, Take}
-use Rattle.step_tables.specs.ClientMoves.{BeginCr, EndCr, Resolve, ResolveAll}
+use Rattle.step_tables.specs.ClientMoves.{BeginCr, EndCr, Resolve, ResolveAll, Alter, Opens, Closes}
+use Rattle.step_tables.specs.Messages.{table_of}
 use Rattle.step_tables.specs.Travels.{message_of}
 use Rattle.client_node.specs.declared.fault.CallFault.{CallFault}
 use Rattle.client_node.specs.declared.fault.CallFault.TheVariants as call
+use Rattle.client_node.specs.Node.{IsToOpen}
 use Rattle.client_node.specs.Taking.{FitsClient}
 use Rattle.world_tables.specs.World.{World, client_at, client_pairs, chosen_of}
 use Rattle.journal_host.specs.declared.asking.Ask.{Ask}
@@ -36,11 +38,39 @@ asked_by s (requests.Deliver message) = Take (message_of message)
 asked_by s (requests.Resolvable table by) = ResolveAll table by
 asked_by s (requests.ResolveBy table row seen by) = Resolve table row seen (chosen_of by row s table)
 asked_by s (requests.AskWhole table tears rows) = Next table tears rows
+asked_by s (requests.Open table schema) = Alter table (Opens schema)
+asked_by s (requests.Close table) = Alter table Closes
 
--- where rows are to be asked for whole, there are some
-abbrev pub AsksSome : Request → Type 0
-AsksSome (requests.AskWhole table tears rows) = rows ≢ []
-AsksSome other = Unit {0}
+-- the table that it is about, where a closed one isn't for it
+abbrev pub ask_table : Ask → Option ℕ
+ask_table (asks.Write table row content) = Some table
+ask_table (asks.Edit table row edit) = Some table
+ask_table (asks.Show table row) = Some table
+ask_table (asks.Sum table row) = Some table
+ask_table (asks.Sync table) = Some table
+ask_table (asks.Pull table) = Some table
+ask_table (asks.BeginCr table) = Some table
+ask_table (asks.EndCr table) = Some table
+ask_table (asks.Resolve table row seen choice) = Some table
+
+abbrev pub request_table : Request → Option ℕ
+request_table (requests.Ask ask) = ask_table ask
+request_table (requests.Deliver message) = Some (table_of (message_of message))
+request_table (requests.Resolvable table by) = Some table
+request_table (requests.ResolveBy table row seen by) = Some table
+request_table (requests.AskWhole table tears rows) = Some table
+request_table (requests.Open table schema) = None
+request_table (requests.Close table) = None
+
+abbrev pub is_message : Request → Bool
+is_message (requests.Deliver message) = true
+is_message other = false
+
+-- where rows are to be asked for whole, there are some; a table that is to be opened can be
+abbrev pub CanAsk : Request → Type 0
+CanAsk (requests.AskWhole table tears rows) = rows ≢ []
+CanAsk (requests.Open table schema) = IsToOpen (table, schema)
+CanAsk other = Unit {0}
 
 -- the row that a message brings fits its table; all else is fit
 abbrev pub FitsDisk : ClientDisk → Request → Type 0

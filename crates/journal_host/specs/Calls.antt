@@ -1,6 +1,6 @@
 -- What the calls of clients on their devices promise, in the moves of the world.
 use Rattle.std.specs.Prelude.{◌≡◌, ◌⊎◌, ℕ, ◌≤◌, ◌++◌, Bool, false, List, map, Option, Some, None, Result, IfOk}
-use Rattle.std.specs.Prelude.{IfErr, IsErrOf, is_some, option_map}
+use Rattle.std.specs.Prelude.{IfErr, IsErrOf, is_some, option_map, if◌then◌else◌}
 use Rattle.std.specs.BTreeMap as tree
 use Rattle.disk_trait.specs.Calls.{DiskState}
 use Rattle.stab_base.specs.declared.limits.TheConstants.{NUMBER_MAX}
@@ -9,7 +9,7 @@ use Rattle.table_model.specs.declared.line.RowPair.{RowPair}
 use Rattle.step_tables.specs.Facts.{PairLine}
 use Rattle.step_tables.specs.Lines.{answer_of}
 use Rattle.step_tables.specs.Messages.{Luck, Done}
-use Rattle.step_tables.specs.ClientMoves.{Shape, Client, seen, table_at}
+use Rattle.step_tables.specs.ClientMoves.{Shape, Client, TableDisk, seen, table_at}
 use Rattle.client_node.specs.HeldRows.{row_held}
 use Rattle.client_node.specs.declared.calls.held.RowHeld.{RowHeld}
 use Rattle.client_node.specs.declared.fault.CallFault.{CallFault}
@@ -60,15 +60,20 @@ pub record Stays {D : Type 0} (state : D → DiskState) (w : World) (old new : C
   pub held : HoldsClients state w new
   pub outs : AreSameOuts old.outs.items new.outs.items
 
--- what a client holds of a row; one that isn't there holds none
+-- a table that isn't closed
+abbrev pub if_open : Option TableDisk → Option TableDisk
+if_open None = None
+if_open (Some table) = if table.closed then None else Some table
+
+-- what a client holds of a row of a table that isn't closed; one that isn't there holds none
 abbrev pub held_by : Option Client → ℕ → List ℕ → Option RowHeld
 held_by None table row = None
-held_by (Some s) table row = option_map (row_held row) (table_at (seen s.disk) table)
+held_by (Some s) table row = option_map (row_held row) (if_open (table_at (seen s.disk) table))
 
--- whether a client is there and has a table opened
+-- whether a client is there and has a table opened, and not closed since
 abbrev pub has_table : Option Client → ℕ → Bool
 has_table None table = false
-has_table (Some s) table = is_some (table_at (seen s.disk) table)
+has_table (Some s) table = is_some (if_open (table_at (seen s.disk) table))
 
 -- ---- causes
 

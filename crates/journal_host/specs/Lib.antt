@@ -5,3 +5,4 @@ pub mod Asks
 pub mod Opening
 pub mod Steps
 pub mod Calls
+pub mod NodeCalls

@@ -8,7 +8,8 @@ use Rattle.step_tables.specs.ClientMoves.{Client, ClientTask, ClientMove, Shape,
 use Rattle.step_tables.specs.ClientMoves.{kept_out}
 use Rattle.world_tables.specs.World.{World, WorldStep, Moved, client_at, move_client, still, failing, answering}
 use Rattle.world_tables.specs.World.{answered, refused, unless_down, reads, unless_kept, unless_cut, first_luck}
-use Rattle.world_tables.specs.World.{is_down, is_cut, is_resolving}
+use Rattle.world_tables.specs.World.{is_down, is_cut, is_resolving, is_closed, table_of_move, closed_answer}
+use Rattle.world_tables.specs.World.{unless_closed}
 
 -- more moves behind those of an event: where one of them fails, that is the answer
 abbrev pub then_moves : WorldStep → (World → Moved) → WorldStep
@@ -26,7 +27,8 @@ agenda_in (Some node) = node.agenda
 
 -- ---- calls
 
--- of a client that is up, reads its disks, isn't kept from it by its phases, and has its link or needs none
+-- of a client that is up, reads its disks, hasn't closed the table, isn't kept from it by its phases, and has its link
+-- or needs none
 abbrev pub move_alone : World → ℕ → ClientMove → Shape → Client → WorldStep
 move_alone w c move shape node = answering (client_step c shape node move).answer (move_client c move shape w)
 
@@ -35,8 +37,9 @@ alone_there w c move shape lucks None = refused w facts.NoTable
 alone_there w c move shape lucks (Some node) =
     unless_down w (nodes.Client c)
     (reads w c (first_luck lucks)
+    (unless_closed w (is_closed node (table_of_move move)) (closed_answer shape (is_cut w c) node.agenda move)
     (unless_kept w (kept_out (is_resolving w c) move (client_step c shape node move).answer)
-    (unless_cut w (is_cut w c && is_cut_off c shape node move) (move_alone w c move shape node))))
+    (unless_cut w (is_cut w c && is_cut_off c shape node move) (move_alone w c move shape node)))))
 
 -- a client's move
 abbrev pub call_alone : World → ℕ → ClientMove → Shape → List Luck → WorldStep

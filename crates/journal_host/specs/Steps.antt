@@ -1,6 +1,6 @@
 -- A client's step, what it tells put behind what was told, and the causes of its calls.
 use Rattle.std.specs.Prelude.{◌≡◌, ◌⊎◌, ℕ, suc, ◌<◌, ◌≤◌, ◌++◌, Bool, false, not, List, [], ◌∷◌, length, Some, None}
-use Rattle.std.specs.Prelude.{Result, Ok, IfOk, IfErr, IsErrOf}
+use Rattle.std.specs.Prelude.{Result, Ok, IfOk, IfErr, IsErrOf, if◌then◌else◌}
 use Rattle.disk_trait.specs.Calls.{DiskState}
 use Rattle.stab_base.specs.declared.node.Node.TheVariants as nodes
 use Rattle.table_model.specs.declared.line.Answer.{Answer}
@@ -19,7 +19,8 @@ use Rattle.client_node.specs.Node.{IsClient, told_by, sent_by, has_task, LeavesE
 use Rattle.client_node.specs.Calls.{IsBehind, Stays}
 use Rattle.client_node.specs.Does.{IsOfNode, refusal_in, step_with}
 use Rattle.client_node.specs.Linked.{phased_step}
-use Rattle.world_tables.specs.World.{Outbox, packets_from, crash_luck, first_luck, other_lucks}
+use Rattle.world_tables.specs.World.{Outbox, packets_from, crash_luck, first_luck, other_lucks, is_closed}
+use Rattle.world_tables.specs.World.{table_of_move, closed_answer}
 use Rattle.journal_host.specs.declared.fault.ClientFault.{ClientFault}
 use Rattle.journal_host.specs.declared.out.ClientOut.{ClientOut}
 use Rattle.journal_host.specs.Holds.{IsHosted, outs_in, AreSameOuts, said, node_faults}
@@ -51,6 +52,16 @@ pub record Replies {D : Type 0} (state : D → DiskState) (images : D → ℕ �
   pub any_moment : LeavesEither state images old new s.disk s.disk
   pub plans : (n : ℕ) → HasPlansBelow state n old → HasPlansBelow state (suc n) new
 
+-- Nothing has changed; or a disk has failed, and the node is down with its disk as it was.
+pub record OnlyLooks {D T : Type 0} (state : D → DiskState) (s : Client) (old new : ClientNode D)
+    (result : Result T CallFault) : Type 0 where
+  pub kept : (IsErrOf result Disk → ⊥) → Stays state old new s
+  pub fallen : IsErrOf result Disk → Stays state old new (record { disk = s.disk; agenda = None })
+  pub counted : (IsErrOf result Disk → ⊥) → node_faults state new ≡ node_faults state old
+  pub cause : IsErrOf result Disk → node_faults state old < node_faults state new
+  pub only : IfErr result (λ e. (e ≡ Disk) ⊎ (e ≡ Memory))
+  pub plans : (n : ℕ) → HasPlansBelow state n old → HasPlansBelow state (suc n) new
+
 -- ---- a step, and what it tells
 
 -- what a step tells and sends
@@ -74,14 +85,32 @@ pub record HasTold {D : Type 0} (state : D → DiskState) (cut : Bool) (c : ℕ)
 
 -- ---- calls
 
--- The client, which had these phases open, made the move, and this is the answer.
-pub record IsMade {D : Type 0} (state : D → DiskState) (phase : ℕ → Bool) (cut : Bool) (c : ℕ) (s : Client)
-    (move : ClientMove) (new : ClientNode D) (before after : List ClientOut) (answer : Answer) : Type 0 where
-  pub shape : Shape
-  pub told : HasTold state cut c (phased_step phase (not cut) c shape s move) new before after
-  pub answer_is : (phased_step phase (not cut) c shape s move).answer ≡ answer_of answer
+-- what a client makes of a move: it looks first whether the table is closed, then at its phases and its link
+abbrev pub guarded_step : (ℕ → Bool) → Bool → ℕ → Shape → Client → ClientMove → ClientStep
+guarded_step phase cut c shape s move = if is_closed s (table_of_move move)
+    then quiet s.disk s.agenda (closed_answer shape cut s.agenda move)
+    else phased_step phase (not cut) c shape s move
 
--- The client, which had these phases open, listed these rows in conflict of a table.
+-- The client, which had these phases open, made this step, and this is the answer.
+pub record IsStepped {D : Type 0} (state : D → DiskState) (cut : Bool) (c : ℕ) (step : Shape → ClientStep)
+    (new : ClientNode D) (before after : List ClientOut) (answer : Answer) : Type 0 where
+  pub shape : Shape
+  pub told : HasTold state cut c (step shape) new before after
+  pub answer_is : (step shape).answer ≡ answer_of answer
+
+-- it made the move
+abbrev pub IsMade : {D : Type 0} → (D → DiskState) → (ℕ → Bool) → Bool → ℕ → Client → ClientMove → ClientNode D
+    → (before after : List ClientOut) → Answer → Type 0
+IsMade state phase cut c s move new before after answer =
+    IsStepped state cut c (λ shape. guarded_step phase cut c shape s move) new before after answer
+
+-- the same where it doesn't look whether the table is closed
+abbrev pub IsMadeOpen : {D : Type 0} → (D → DiskState) → (ℕ → Bool) → Bool → ℕ → Client → ClientMove → ClientNode D
+    → (before after : List ClientOut) → Answer → Type 0
+IsMadeOpen state phase cut c s move new before after answer =
+    IsStepped state cut c (λ shape. phased_step phase (not cut) c shape s move) new before after answer
+
+-- The client, which had these phases open, listed these rows in conflict of a table, which isn't closed.
 pub record IsListing {D : Type 0} (state : D → DiskState) (phase : ℕ → Bool) (cut : Bool) (c : ℕ) (s : Client)
     (table : ℕ) (new : ClientNode D) (before after : List ClientOut) (pairs : List RowPair) (answer : Answer)
     : Type 0 where
@@ -89,6 +118,10 @@ pub record IsListing {D : Type 0} (state : D → DiskState) (phase : ℕ → Boo
   pub told : HasTold state cut c (phased_step phase (not cut) c shape s (Conflicts table)) new before after
   pub pairs_are : (phased_step phase (not cut) c shape s (Conflicts table)).answer ≡ facts.Pairs pairs
   pub answer_is : answer ≡ answers.Number (length pairs)
+
+-- whether a client has closed the table that a move is about
+abbrev pub IsShut : Client → ClientMove → Bool → Type 0
+IsShut s move closed = is_closed s (table_of_move move) ≡ closed
 
 -- A disk has failed, and the client is down with its disk as it was.
 pub record IsFallen {D : Type 0} (state : D → DiskState) (cut : Bool) (c : ℕ) (s : Client) (new : ClientNode D)

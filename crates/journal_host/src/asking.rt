@@ -5,7 +5,8 @@ ghost use Rattle.step_tables.specs.ClientMoves.{Client};
 ghost use Rattle.client_node.specs.declared.fault.CallFault.TheVariants.{Spent};
 ghost use Rattle.client_node.specs.Does.{HasNoNumber};
 ghost use Rattle.client_node.specs.Node.{IsClient, IsNode};
-ghost use Rattle.journal_host.specs.Asks.{move_of, asked_by, FitsDisk, AreAsked, AsksSome, as_answer};
+ghost use Rattle.journal_host.specs.Asks.{move_of, asked_by, ask_table, request_table, is_message, CanAsk};
+ghost use Rattle.journal_host.specs.Asks.{FitsDisk, AreAsked, as_answer};
 ghost use Rattle.journal_host.specs.Phases.{MovesPhases, answer_in};
 ghost use Rattle.journal_host.specs.Steps.{HasMade, HasDropped, Replies};
 
@@ -13,7 +14,7 @@ use client_node::{CallFault, ClientNode};
 use conflicts::{Choice, Stored};
 use disk_trait::Disk;
 use row_edits::Edit;
-use row_value::Content;
+use row_value::{Content, Schema};
 use stab_base::{RowId, Sequence, Step, TableNo, Version};
 use step_tables::Message;
 use table_model::{Answer, RowPairs, Shown};
@@ -69,6 +70,25 @@ pub enum Ask {
     },
 }
 
+impl Ask {
+    // The table that it is about, where a closed one isn't for it.
+    fn table(&self) -> Option<TableNo>
+        ensures { result ≡ ask_table self.now }
+    {
+        match self {
+            Ask::Write { table, .. }
+            | Ask::Edit { table, .. }
+            | Ask::Show { table, .. }
+            | Ask::Sum { table, .. }
+            | Ask::Sync { table }
+            | Ask::Pull { table }
+            | Ask::BeginCr { table }
+            | Ask::EndCr { table }
+            | Ask::Resolve { table, .. } => Some(*table),
+        }
+    }
+}
+
 /// What a client is asked for, or a message for it.
 #[derive(Drop)]
 pub(crate) enum Request {
@@ -92,6 +112,38 @@ pub(crate) enum Request {
         tears: Sequence<RowId>,
         asks: Sequence<RowId>,
     },
+    /// To open a table that isn't there.
+    Open {
+        table: TableNo,
+        schema: Schema,
+    },
+    /// To close a table for good.
+    Close {
+        table: TableNo,
+    },
+}
+
+impl Request {
+    /// The table that it is about, where a closed one isn't for it.
+    pub(crate) fn table(&self) -> Option<TableNo>
+        ensures { result ≡ request_table self.now }
+    {
+        match self {
+            Request::Ask(ask) => ask.table(),
+            Request::Deliver(message) => Some(message.table()),
+            Request::Resolvable { table, .. }
+            | Request::ResolveBy { table, .. }
+            | Request::AskWhole { table, .. } => Some(*table),
+            Request::Open { .. } | Request::Close { .. } => None,
+        }
+    }
+
+    /// Whether it is a message.
+    pub(crate) fn is_message(&self) -> bool
+        ensures { result ≡ is_message self.now }
+    {
+        matches!(self, Request::Deliver(_))
+    }
 }
 
 /// What was begun or done has this number.
@@ -193,7 +245,7 @@ pub(crate) fn reply<D: Disk + Drop>(
 ) -> Result<Answer, CallFault>
     requires node { IsNode D.state node.old }
     requires up { node.old.is_up ≡ true }
-    requires some { AsksSome request }
+    requires may { CanAsk request }
     ensures made { (s : Client) → IsClient D.state node.old s → FitsDisk s.disk request
         → Replies D.state D.images s (asked_by (Some s) request) node.old node.new
         (HasMade D.state s (asked_by (Some s) request) node.old node.new) result }
@@ -221,5 +273,7 @@ pub(crate) fn reply<D: Disk + Drop>(
         Request::AskWhole { table, tears, asks } => {
             done(node.ask_whole(table, tears.as_slice(), asks.as_slice()))
         }
+        Request::Open { table, schema } => done(node.open_table(table, schema)),
+        Request::Close { table } => done(node.close_table(table)),
     }
 }

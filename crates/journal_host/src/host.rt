@@ -4,18 +4,19 @@ ghost use Rattle.std.specs.Prelude.{IfOk, IfErr, OnOk, OnErr, IfSome, IsErrOf, o
 ghost use Rattle.std.specs.Ordering.{nat_cmp};
 ghost use Rattle.std.specs.BTreeMap as tree;
 ghost use Rattle.stab_base.specs.declared.node.Node.TheVariants as nodes;
-ghost use Rattle.step_tables.specs.ClientMoves.{Conflicts, Next, Resolve, ResolveAll};
+ghost use Rattle.step_tables.specs.ClientMoves.{Alter, Opens, Closes, Conflicts, Next, Resolve, ResolveAll};
 ghost use Rattle.step_tables.specs.Messages.{Luck};
 ghost use Rattle.step_tables.specs.Messages as lucks;
 ghost use Rattle.step_tables.specs.Travels.{message_of};
 ghost use Rattle.client_node.specs.declared.fault.CallFault.TheVariants.{Disk as DiskFailed};
+ghost use Rattle.client_node.specs.Node.{IsToOpen};
 ghost use Rattle.world_tables.specs.World.{World as AWorld, client_at, client_tasks, is_down, joined, linked};
 ghost use Rattle.world_tables.specs.World.{worked, all_worked, client_crashes, client_writes, client_until_idle};
 ghost use Rattle.world_tables.specs.World.{next_write, client_pairs, chosen_of, client_falls};
 ghost use Rattle.world_tables.specs.Ready.{is_client_ready};
 ghost use Rattle.journal_host.specs.declared.asking.Request.TheVariants as requests;
 ghost use Rattle.journal_host.specs.declared.fault.ClientFault.TheVariants.{Memory};
-ghost use Rattle.journal_host.specs.Asks.{move_of, asked_by, FitsIn, AreAsked, AsksSome};
+ghost use Rattle.journal_host.specs.Asks.{move_of, asked_by, CanAsk, FitsIn, AreAsked};
 ghost use Rattle.journal_host.specs.Calls.{IsMoved, IsCalled, Comes, Lists, Stays, HasCause, HasMoveCause};
 ghost use Rattle.journal_host.specs.Calls.{HasLuck, IsNumberCause, held_by, has_table};
 ghost use Rattle.journal_host.specs.Holds.{HoldsClients, AreClients, HasSchemas, AreToOpen, SameFaults, disks_at};
@@ -25,6 +26,7 @@ ghost use Rattle.journal_host.specs.Moves.{call_alone, take_alone, start_alone, 
 
 use crate::asking::{Ask, Request, did, numbered};
 use crate::fault::ClientFault;
+use crate::holding::{has_open, open_row};
 use crate::hosted::{answered, call, crash, is_ready, link, list, plan_at, start, work};
 use crate::opening::joining;
 use crate::out::ClientOut;
@@ -184,7 +186,7 @@ impl<D: Disk + Drop> ClientHost<D> {
         pairs: &mut RowPairs,
     ) -> Result<Answer, ClientFault>
         requires clients { AreClients D.state self.old }
-        requires some { AsksSome request }
+        requires may { CanAsk request }
         ensures called { (w : AWorld) → HoldsClients D.state w self.old → FitsIn w client request
             → Comes D.state self.old self.new (call_alone w client (asked_by (client_at w client) request)) result }
         ensures dropped { (w : AWorld) → HoldsClients D.state w self.old → (FitsIn w client request → ⊥)
@@ -208,8 +210,8 @@ impl<D: Disk + Drop> ClientHost<D> {
         }
     }
 
-    /// Asks a client: its answer, or what it refuses. One that hasn't joined refuses, as one that hasn't opened the
-    /// table does.
+    /// Asks a client: its answer, or what it refuses. One that hasn't joined refuses, as one does that hasn't opened
+    /// the table, or has closed it.
     ///
     /// # Errors
     ///
@@ -354,8 +356,56 @@ impl<D: Disk + Drop> ClientHost<D> {
         self.call(client, request, &mut none)
     }
 
+    /// Opens a table at a client: one that is there, open or closed, stays as it is. It is answered `Done`.
+    ///
+    /// # Errors
+    ///
+    /// Those of `ask`.
+    pub fn open(
+        &mut self,
+        client: ClientNo,
+        table: TableNo,
+        schema: Schema,
+    ) -> Result<Answer, ClientFault>
+        requires clients { AreClients D.state self.old }
+        requires opens { IsToOpen (table, schema) }
+        ensures called { (w : AWorld) → HoldsClients D.state w self.old
+            → Comes D.state self.old self.new (call_alone w client (Alter table (Opens schema))) result }
+        ensures spent { (w : AWorld) (n : ℕ) → HoldsClients D.state w self.old
+            → HavePlansBelow D.state n self.old.clients → IfErr result (IsNumberCause n (client_at w client)) }
+        ensures kept { (w : AWorld) → HoldsClients D.state w self.old
+            → OnErr result (Stays D.state w self.old self.new) }
+        ensures cause { HasCause D.state client self.old.clients self.new.clients result }
+        ensures plans { (n : ℕ) → HavePlansBelow D.state n self.old.clients
+            → HavePlansBelow D.state (suc n) self.new.clients }
+    {
+        let mut none = Sequence::new(self.alloc);
+        self.call(client, Request::Open { table, schema }, &mut none)
+    }
+
+    /// Closes a table at a client for good; one that isn't there stays so. It is answered `Done`.
+    ///
+    /// # Errors
+    ///
+    /// Those of `ask`.
+    pub fn close(&mut self, client: ClientNo, table: TableNo) -> Result<Answer, ClientFault>
+        requires { AreClients D.state self.old }
+        ensures called { (w : AWorld) → HoldsClients D.state w self.old
+            → Comes D.state self.old self.new (call_alone w client (Alter table Closes)) result }
+        ensures spent { (w : AWorld) (n : ℕ) → HoldsClients D.state w self.old
+            → HavePlansBelow D.state n self.old.clients → IfErr result (IsNumberCause n (client_at w client)) }
+        ensures kept { (w : AWorld) → HoldsClients D.state w self.old
+            → OnErr result (Stays D.state w self.old self.new) }
+        ensures cause { HasCause D.state client self.old.clients self.new.clients result }
+        ensures plans { (n : ℕ) → HavePlansBelow D.state n self.old.clients
+            → HavePlansBelow D.state (suc n) self.new.clients }
+    {
+        let mut none = Sequence::new(self.alloc);
+        self.call(client, Request::Close { table }, &mut none)
+    }
+
     /// What a client holds of a row under the Store's names, whatever is still to be done: none where it hasn't opened
-    /// the table, or hasn't joined.
+    /// the table, or has closed it, or hasn't joined.
     ///
     /// # Errors
     ///
@@ -379,12 +429,13 @@ impl<D: Disk + Drop> ClientHost<D> {
             → HavePlansBelow D.state (suc n) self.new.clients }
     {
         match self.clients.get_mut(&client) {
-            Some(node) => node.held_row(table, row),
+            Some(node) => open_row(node, table, row),
             None => Ok(None),
         }
     }
 
-    /// Whether the client has the table opened, whatever is still to be done; one that hasn't joined has none.
+    /// Whether the client has the table opened and hasn't closed it, whatever is still to be done; one that hasn't
+    /// joined has none.
     ///
     /// # Errors
     ///
@@ -403,7 +454,7 @@ impl<D: Disk + Drop> ClientHost<D> {
             → HavePlansBelow D.state (suc n) self.new.clients }
     {
         match self.clients.get_mut(&client) {
-            Some(node) => node.has_opened(table),
+            Some(node) => has_open(node, table),
             None => Ok(false),
         }
     }

@@ -1,25 +1,28 @@
 //! Calls of one client's node, what it tells put behind what was told.
-ghost use Rattle.std.specs.Prelude.{◌≡◌, ◌⊎◌, ◌∷◌, ◌<◌, ◌++◌, ℕ, suc, Bool, [], Option, Some, true, false, not, ◌&&◌};
-ghost use Rattle.std.specs.Prelude.{Ok, IfOk, IfErr, OnErr, IsErrOf, IfSome, is_some};
+ghost use Rattle.std.specs.Prelude.{◌≡◌, ◌⊎◌, ◌∷◌, ◌<◌, ◌++◌, ℕ, Bool, [], Option, Some, true, false, not, ◌&&◌};
+ghost use Rattle.std.specs.Prelude.{Ok, IfOk, IfErr, OnOk, OnErr, IsErrOf, IfSome, is_some};
 ghost use Rattle.std.specs.Vec.{vec_capacity, vec_len};
 ghost use Rattle.stab_base.specs.declared.node.Node.TheVariants as nodes;
 ghost use Rattle.table_model.specs.declared.line.Answer.TheVariants as answers;
 ghost use Rattle.table_model.specs.declared.line.Refusal.TheVariants as refusals;
-ghost use Rattle.step_tables.specs.ClientMoves.{Client, ClientStep, Conflicts, Work, client_step, no_shape};
+ghost use Rattle.step_tables.specs.ClientMoves.{Shape, Client, ClientStep, Conflicts, Take, Work, client_step};
+ghost use Rattle.step_tables.specs.ClientMoves.{no_shape};
+ghost use Rattle.step_tables.specs.Messages.{Message as AMessage};
+ghost use Rattle.step_tables.specs.Lines.{answer_of};
 ghost use Rattle.step_tables.specs.Messages as lucks;
 ghost use Rattle.client_node.specs.declared.fault.CallFault.TheVariants.{Disk as DiskFailed};
 ghost use Rattle.client_node.specs.Node.{IsClient, IsNode, told_by, has_task, HasPlansBelow};
 ghost use Rattle.client_node.specs.Phases.{is_open, KeepsPhases};
 ghost use Rattle.world_tables.specs.Ready.{is_idle};
-ghost use Rattle.world_tables.specs.World.{next_write, tasks_in};
+ghost use Rattle.world_tables.specs.World.{next_write, tasks_in, idle_answer, closed_answer};
 ghost use Rattle.journal_host.specs.declared.fault.ClientFault.TheVariants as faults;
-ghost use Rattle.journal_host.specs.Asks.{asked_by, FitsDisk, AreAsked, AsksSome, answered_as};
-ghost use Rattle.journal_host.specs.Calls.{IsNumberCause};
+ghost use Rattle.journal_host.specs.Asks.{asked_by, CanAsk, answered_as};
+ghost use Rattle.journal_host.specs.NodeCalls.{Asked, Listed};
 ghost use Rattle.journal_host.specs.Holds.{IsHosted, outs_in, AreSameOuts, outbox_of, says_something, said};
 ghost use Rattle.journal_host.specs.Holds.{node_faults, plan_of};
-ghost use Rattle.journal_host.specs.Phases.{SamePhases, MovesPhases, answer_in};
-ghost use Rattle.journal_host.specs.Steps.{IsTelling, HasTold, IsMade, IsListing, IsFallen, IsDropped};
-ghost use Rattle.journal_host.specs.Steps.{HasNodeCause};
+ghost use Rattle.journal_host.specs.Phases.{SamePhases};
+ghost use Rattle.journal_host.specs.Steps.{IsTelling, HasTold, IsMade, IsMadeOpen, IsListing};
+ghost use Rattle.journal_host.specs.Steps.{OnlyLooks, IsShut, HasNodeCause};
 ghost use Rattle.journal_host.specs.Steps.{HasAnswerCause, HasCrashed, IsStarted, IsNotStarted};
 
 use crate::asking::{Request, counted, done, reply};
@@ -114,7 +117,7 @@ fn tell<D: Disk + Drop>(node: &mut ClientNode<D>, outs: &mut Vec<ClientOut>, cli
     put(outs, ClientOut { client, out });
 }
 
-// Asks a node that is up.
+// Asks a node that is up about a table that it hasn't closed.
 fn call_up<D: Disk + Drop>(
     node: &mut ClientNode<D>,
     outs: &mut Vec<ClientOut>,
@@ -124,31 +127,92 @@ fn call_up<D: Disk + Drop>(
 ) -> Result<Answer, ClientFault>
     requires node { IsNode D.state node.old }
     requires up { node.old.is_up ≡ true }
-    requires some { AsksSome request }
-    ensures made { (cut : Bool) (s : Client) → IsHosted D.state cut client s node.old → FitsDisk s.disk request
-        → IfOk result (λ answer. IsMade D.state (is_open node.old) cut client s (asked_by (Some s) request) node.new
-        outs.old.items outs.new.items answer
-        ⊎ IsFallen D.state cut client s node.new outs.old.items outs.new.items answer) }
-    ensures dropped { (cut : Bool) (s : Client) → IsHosted D.state cut client s node.old → (FitsDisk s.disk request → ⊥)
-        → IfOk result (λ answer. IsDropped D.state cut client s node.new outs.old.items outs.new.items answer
-        ⊎ (IsMade D.state (is_open node.old) cut client s (asked_by (Some s) request) node.new outs.old.items outs.new.items
-        answer
-        ⊎ IsFallen D.state cut client s node.new outs.old.items outs.new.items answer)) }
-    ensures spent { (cut : Bool) (s : Client) (n : ℕ) → IsHosted D.state cut client s node.old
-        → HasPlansBelow D.state n node.old → FitsDisk s.disk request → IfErr result (IsNumberCause n (Some s)) }
-    ensures kept { (cut : Bool) (s : Client) → IsHosted D.state cut client s node.old
-        → OnErr result (IsHosted D.state cut client s node.new × AreSameOuts outs.old.items outs.new.items) }
-    ensures pairs { (cut : Bool) (s : Client) (count : ℕ) → IsHosted D.state cut client s node.old
-        → result ≡ Ok (answers.Number count) → AreAsked (Some s) request pairs.new }
-    ensures phases { (s : Option Client)
-        → MovesPhases (asked_by s request) (answer_in result) node.old node.new }
-    ensures cause { HasAnswerCause D.state node.old node.new result }
-    ensures plans { (n : ℕ) → HasPlansBelow D.state n node.old → HasPlansBelow D.state (suc n) node.new }
+    requires may { CanAsk request }
+    ensures { Asked D.state client request
+        (λ cut s answer. IsMadeOpen D.state (is_open node.old) cut client s (asked_by (Some s) request) node.new
+        outs.old.items outs.new.items answer)
+        node.old node.new outs.old.items outs.new.items pairs.new result }
 {
     outs.reserve(1)?;
     let found = reply(node, request, pairs);
     tell(node, outs, client);
     answered(found)
+}
+
+// What a node that is up answers to a message that it has no use for, where its link is up.
+fn idle_answer<D: Disk + Drop>(node: &ClientNode<D>) -> Answer
+    requires { IsNode D.state node.now }
+    ensures { (s : Client) → IsClient D.state node.now s
+        → (shape : Shape) × (idle_answer shape s.agenda ≡ answer_of result) }
+{
+    match plan_at(node) {
+        Some(with) => Answer::Refused(Refusal::Busy { with }),
+        None => Answer::Done,
+    }
+}
+
+// What it answers to one, whether its link is up or not.
+fn unused_answer<D: Disk + Drop>(node: &ClientNode<D>) -> Answer
+    requires { IsNode D.state node.now }
+    ensures { (s : Client) (message : AMessage) → IsClient D.state node.now s → (shape : Shape)
+        × (closed_answer shape (not node.now.is_linked) s.agenda (Take message) ≡ answer_of result) }
+{
+    if node.is_linked() {
+        return idle_answer(node);
+    }
+    Answer::Refused(Refusal::Offline)
+}
+
+// What it answers about a table that it has closed: it refuses a call, and has no use for a message.
+fn shut_answer<D: Disk + Drop>(node: &ClientNode<D>, request: &Request) -> Answer
+    requires { IsNode D.state node.now }
+    ensures { (s : Client) (o : Option Client) → IsClient D.state node.now s → (shape : Shape)
+        × (closed_answer shape (not node.now.is_linked) s.agenda (asked_by o request.now) ≡ answer_of result) }
+{
+    if request.is_message() {
+        return unused_answer(node);
+    }
+    Answer::Refused(Refusal::NoTable)
+}
+
+// Whether a node that is up has closed the table that it is asked about.
+fn is_shut<D: Disk + Drop>(node: &mut ClientNode<D>, request: &Request) -> Result<bool, CallFault>
+    requires node { IsNode D.state node.old }
+    requires up { node.old.is_up ≡ true }
+    ensures shut { (s : Client) → IsClient D.state node.old s
+        → IfOk result (λ closed. IsShut s (asked_by (Some s) request.now) closed) }
+    ensures looks { (s : Client) → IsClient D.state node.old s → OnlyLooks D.state s node.old node.new result }
+    ensures node { IsNode D.state node.new }
+    ensures phases { KeepsPhases node.old node.new }
+    ensures plans { (n : ℕ) → HasPlansBelow D.state n node.old → OnOk result (HasPlansBelow D.state n node.new) }
+{
+    match request.table() {
+        Some(table) => node.has_closed(table),
+        None => Ok(false),
+    }
+}
+
+// Asks a node that is up.
+fn call_guarded<D: Disk + Drop>(
+    node: &mut ClientNode<D>,
+    outs: &mut Vec<ClientOut>,
+    client: ClientNo,
+    request: Request,
+    pairs: &mut RowPairs,
+) -> Result<Answer, ClientFault>
+    requires node { IsNode D.state node.old }
+    requires up { node.old.is_up ≡ true }
+    requires may { CanAsk request }
+    ensures { Asked D.state client request
+        (λ cut s answer. IsMade D.state (is_open node.old) cut client s (asked_by (Some s) request) node.new
+        outs.old.items outs.new.items answer)
+        node.old node.new outs.old.items outs.new.items pairs.new result }
+{
+    match is_shut(node, &request) {
+        Ok(false) => call_up(node, outs, client, request, pairs),
+        Ok(true) => Ok(shut_answer(node, &request)),
+        Err(fault) => answered(Err(fault)),
+    }
 }
 
 /// Asks a node. One that is down refuses. The rows that can all be resolved are handed over.
@@ -160,40 +224,23 @@ pub(crate) fn call<D: Disk + Drop>(
     pairs: &mut RowPairs,
 ) -> Result<Answer, ClientFault>
     requires node { IsNode D.state node.old }
-    requires some { AsksSome request }
-    ensures made { (cut : Bool) (s : Client) → IsHosted D.state cut client s node.old → FitsDisk s.disk request
-        → node.old.is_up ≡ true
-        → IfOk result (λ answer. IsMade D.state (is_open node.old) cut client s (asked_by (Some s) request) node.new
-        outs.old.items outs.new.items answer
-        ⊎ IsFallen D.state cut client s node.new outs.old.items outs.new.items answer) }
-    ensures dropped { (cut : Bool) (s : Client) → IsHosted D.state cut client s node.old → (FitsDisk s.disk request → ⊥)
-        → node.old.is_up ≡ true
-        → IfOk result (λ answer. IsDropped D.state cut client s node.new outs.old.items outs.new.items answer
-        ⊎ (IsMade D.state (is_open node.old) cut client s (asked_by (Some s) request) node.new outs.old.items outs.new.items
-        answer
-        ⊎ IsFallen D.state cut client s node.new outs.old.items outs.new.items answer)) }
+    requires may { CanAsk request }
+    ensures asked { Asked D.state client request
+        (λ cut s answer. node.old.is_up ≡ true → IsMade D.state (is_open node.old) cut client s
+        (asked_by (Some s) request) node.new outs.old.items outs.new.items answer)
+        node.old node.new outs.old.items outs.new.items pairs.new result }
     ensures down { node.old.is_up ≡ false → (node.new ≡ node.old) × (outs.new.items ≡ outs.old.items)
         × IfOk result (λ answer. answer ≡ answers.Refused (refusals.Down (nodes.Client client))) }
-    ensures spent { (cut : Bool) (s : Client) (n : ℕ) → IsHosted D.state cut client s node.old
-        → HasPlansBelow D.state n node.old → FitsDisk s.disk request → IfErr result (IsNumberCause n (Some s)) }
-    ensures kept { (cut : Bool) (s : Client) → IsHosted D.state cut client s node.old
-        → OnErr result (IsHosted D.state cut client s node.new × AreSameOuts outs.old.items outs.new.items) }
-    ensures pairs { (cut : Bool) (s : Client) (count : ℕ) → IsHosted D.state cut client s node.old
-        → result ≡ Ok (answers.Number count) → AreAsked (Some s) request pairs.new }
-    ensures phases { (s : Option Client)
-        → MovesPhases (asked_by s request) (answer_in result) node.old node.new }
-    ensures cause { HasAnswerCause D.state node.old node.new result }
-    ensures plans { (n : ℕ) → HasPlansBelow D.state n node.old → HasPlansBelow D.state (suc n) node.new }
 {
     if node.is_up() {
-        return call_up(node, outs, client, request, pairs);
+        return call_guarded(node, outs, client, request, pairs);
     }
     Ok(Answer::Refused(Refusal::Down {
         node: Node::Client(client),
     }))
 }
 
-// Asks a node that is up for the rows in conflict of a table.
+// Asks a node that is up for the rows in conflict of a table that it hasn't closed.
 fn list_up<D: Disk + Drop>(
     node: &mut ClientNode<D>,
     outs: &mut Vec<ClientOut>,
@@ -203,24 +250,42 @@ fn list_up<D: Disk + Drop>(
 ) -> Result<Answer, ClientFault>
     requires node { IsNode D.state node.old }
     requires up { node.old.is_up ≡ true }
-    ensures listed { (cut : Bool) (s : Client) → IsHosted D.state cut client s node.old → IfOk result (λ answer.
-        IsListing D.state (is_open node.old) cut client s table node.new outs.old.items outs.new.items pairs.new answer
-        ⊎ ((pairs.new ≡ pairs.old) × (IsMade D.state (is_open node.old) cut client s (Conflicts table) node.new
-        outs.old.items outs.new.items answer
-        ⊎ IsFallen D.state cut client s node.new outs.old.items outs.new.items answer))) }
-    ensures spent { (cut : Bool) (s : Client) (n : ℕ) → IsHosted D.state cut client s node.old
-        → HasPlansBelow D.state n node.old → IfErr result (IsNumberCause n (Some s)) }
-    ensures kept { (cut : Bool) (s : Client) → IsHosted D.state cut client s node.old
-        → OnErr result (IsHosted D.state cut client s node.new × AreSameOuts outs.old.items outs.new.items) }
-    ensures phases { KeepsPhases node.old node.new }
-    ensures cause { HasAnswerCause D.state node.old node.new result }
-    ensures plans { (n : ℕ) → HasPlansBelow D.state n node.old → HasPlansBelow D.state (suc n) node.new }
+    ensures { Listed D.state client
+        (λ cut s answer. IsListing D.state (is_open node.old) cut client s table node.new outs.old.items outs.new.items
+        pairs.new answer)
+        (λ cut s answer. IsMadeOpen D.state (is_open node.old) cut client s (Conflicts table) node.new outs.old.items
+        outs.new.items answer)
+        node.old node.new outs.old.items outs.new.items pairs.old pairs.new result }
 {
     outs.reserve(1)?;
     let found = node.conflicted(table);
     let count = counted(found, pairs);
     tell(node, outs, client);
     answered(count)
+}
+
+// Asks a node that is up for the rows in conflict of a table.
+fn list_guarded<D: Disk + Drop>(
+    node: &mut ClientNode<D>,
+    outs: &mut Vec<ClientOut>,
+    client: ClientNo,
+    table: TableNo,
+    pairs: &mut RowPairs,
+) -> Result<Answer, ClientFault>
+    requires node { IsNode D.state node.old }
+    requires up { node.old.is_up ≡ true }
+    ensures { Listed D.state client
+        (λ cut s answer. IsShut s (Conflicts table) false × IsListing D.state (is_open node.old) cut client s table
+        node.new outs.old.items outs.new.items pairs.new answer)
+        (λ cut s answer. IsMade D.state (is_open node.old) cut client s (Conflicts table) node.new outs.old.items
+        outs.new.items answer)
+        node.old node.new outs.old.items outs.new.items pairs.old pairs.new result }
+{
+    match node.has_closed(table) {
+        Ok(false) => list_up(node, outs, client, table, pairs),
+        Ok(true) => Ok(Answer::Refused(Refusal::NoTable)),
+        Err(fault) => answered(Err(fault)),
+    }
 }
 
 /// Asks a node for the rows in conflict of a table: how many there are. One that is down refuses.
@@ -232,25 +297,18 @@ pub(crate) fn list<D: Disk + Drop>(
     pairs: &mut RowPairs,
 ) -> Result<Answer, ClientFault>
     requires { IsNode D.state node.old }
-    ensures listed { (cut : Bool) (s : Client) → IsHosted D.state cut client s node.old → node.old.is_up ≡ true
-        → IfOk result (λ answer. IsListing D.state (is_open node.old) cut client s table node.new outs.old.items
-        outs.new.items pairs.new answer
-        ⊎ ((pairs.new ≡ pairs.old) × (IsMade D.state (is_open node.old) cut client s (Conflicts table) node.new
-        outs.old.items outs.new.items answer
-        ⊎ IsFallen D.state cut client s node.new outs.old.items outs.new.items answer))) }
+    ensures listed { Listed D.state client
+        (λ cut s answer. node.old.is_up ≡ true → IsShut s (Conflicts table) false × IsListing D.state
+        (is_open node.old) cut client s table node.new outs.old.items outs.new.items pairs.new answer)
+        (λ cut s answer. node.old.is_up ≡ true → IsMade D.state (is_open node.old) cut client s (Conflicts table)
+        node.new outs.old.items outs.new.items answer)
+        node.old node.new outs.old.items outs.new.items pairs.old pairs.new result }
     ensures down { node.old.is_up ≡ false → (node.new ≡ node.old) × (outs.new.items ≡ outs.old.items)
         × (pairs.new ≡ pairs.old)
         × IfOk result (λ answer. answer ≡ answers.Refused (refusals.Down (nodes.Client client))) }
-    ensures spent { (cut : Bool) (s : Client) (n : ℕ) → IsHosted D.state cut client s node.old
-        → HasPlansBelow D.state n node.old → IfErr result (IsNumberCause n (Some s)) }
-    ensures kept { (cut : Bool) (s : Client) → IsHosted D.state cut client s node.old
-        → OnErr result (IsHosted D.state cut client s node.new × AreSameOuts outs.old.items outs.new.items) }
-    ensures phases { KeepsPhases node.old node.new }
-    ensures cause { HasAnswerCause D.state node.old node.new result }
-    ensures plans { (n : ℕ) → HasPlansBelow D.state n node.old → HasPlansBelow D.state (suc n) node.new }
 {
     if node.is_up() {
-        return list_up(node, outs, client, table, pairs);
+        return list_guarded(node, outs, client, table, pairs);
     }
     Ok(Answer::Refused(Refusal::Down {
         node: Node::Client(client),

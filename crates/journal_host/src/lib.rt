@@ -3,6 +3,7 @@
 
 mod asking;
 mod fault;
+mod holding;
 mod host;
 mod hosted;
 mod laws;

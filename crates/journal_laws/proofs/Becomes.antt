@@ -6,6 +6,7 @@ use Rattle.held_value.specs.declared.slots.Slots.{Slots as HeldSlots}
 use Rattle.slot_store.specs.declared.held.RowSlots.{RowSlots}
 use Rattle.slot_store.specs.Data.{SlotData, slots_of}
 use Rattle.plan_log.specs.declared.plan.RowChange.{RowChange}
+use Rattle.plan_log.specs.declared.plan.RecordChange.{RecordChange}
 use Rattle.client_journal.specs.declared.plan.Plan.{Plan as Begun}
 use Rattle.client_journal.specs.Names.{Has, names_in}
 use Rattle.client_journal.specs.Devs.{ClientDevs}
@@ -15,9 +16,9 @@ use Rattle.client_journal.specs.Agenda.{Commits, meaning_with}
 use Rattle.client_journal.specs.Plan.{IsPlan, numbered_row, numbered_slots, commit_for, intend_for}
 use Rattle.client_journal.proofs.Applied.{as_held}
 use Rattle.client_journal.proofs.Numbers.{plan_commits}
-use Rattle.step_tables.specs.ClientMoves.{RowPut, Plan, ClientDisk, slots_in, table_at}
+use Rattle.step_tables.specs.ClientMoves.{RowPut, Plan, TableChange, ClientDisk, slots_in, table_at}
 use Rattle.journal_laws.specs.Whole.{whole_slots, AreHeld, AreNumbered}
-use Rattle.journal_laws.specs.Holds.{slots_or_empty, Say, StandsPut, IsPlanOf, Stands}
+use Rattle.journal_laws.specs.Holds.{slots_or_empty, Say, StandsPut, StandsChange, IsPlanOf, Stands}
 use Rattle.journal_laws.specs.Moves.{Plans, plan_meaning}
 use Rattle.journal_laws.proofs.Alike.{slots_alike, held_alike}
 use Rattle.journal_laws.proofs.Brought.{kept_is}
@@ -65,10 +66,15 @@ module _ (c : ℕ) (meaning : LocalName → List ℕ) (d : ClientDevs) (disk : C
         (λ new. let at = new.plan_is in absurd (omega (arith, newest)))
         (commits.kept_or_new name (subst (λ (o : Option RowChange). Has (names_behind o) name) (sym row_is) has))
 
-    module _ (table : plan.table ≡ p.table) (last : plan.last ≡ p.last) (position : plan.position ≡ p.position) (no_record : plan.new_record ≡ None) where
-      pub row_plan_of : (row : List ℕ) (slots : HeldSlots) → plan.row ≡ Some (record { row = row; slots = slots }) → AreHeld (plan_meaning meaning number plan.brought) slots
+    module _ (table : plan.table ≡ p.table) (last : plan.last ≡ p.last) (position : plan.position ≡ p.position) where
+      -- no table is opened or closed
+      none_altered : plan.new_record ≡ None → p.alters ≡ None → StandsChange plan.new_record p p.alters
+      none_altered no_record none =
+          subst (λ (r : Option RecordChange). StandsChange r p p.alters) (sym no_record) (subst (λ (o : Option TableChange). StandsChange None p o) (sym none) tt)
+
+      pub row_plan_of : plan.new_record ≡ None → (row : List ℕ) (slots : HeldSlots) → plan.row ≡ Some (record { row = row; slots = slots }) → AreHeld (plan_meaning meaning number plan.brought) slots
           → Plans (plan_meaning meaning number plan.brought) c row slots plan.tells p → IsPlanOf means c (commit_for number plan) p
-      row_plan_of row slots is held k =
+      row_plan_of no_record row slots is held k =
           let change : RowChange = record { row = row; slots = slots } in
           let put : RowPut = record { row = row; slots = whole_slots (plan_meaning meaning number plan.brought) slots } in
           let s : StandsPut means (Some (numbered_row number change)) (Some put) = record {
@@ -83,16 +89,16 @@ module _ (c : ℕ) (meaning : LocalName → List ℕ) (d : ClientDevs) (disk : C
             row = subst (λ (o : Option RowChange). StandsPut means (option_map (numbered_row number) o) p.row) (sym is)
                 (subst (λ (o : Option RowPut). StandsPut means (Some (numbered_row number change)) o) (sym k.put) s);
             position = position;
-            no_record = no_record;
+            alters = none_altered no_record k.alters;
             tells = k.tells;
           }
 
-      pub plain_plan_of : plan.row ≡ None → p.row ≡ None → Say c p.table p.row plan.tells p.facts → IsPlanOf means c (commit_for number plan) p
-      plain_plan_of is none says = record {
+      pub plain_plan_of : StandsChange plan.new_record p p.alters → plan.row ≡ None → p.row ≡ None → Say c p.table p.row plan.tells p.facts → IsPlanOf means c (commit_for number plan) p
+      plain_plan_of altered is none says = record {
         last = last;
         table = table;
         row = subst (λ (o : Option RowChange). StandsPut means (option_map (numbered_row number) o) p.row) (sym is) (subst (λ (o : Option RowPut). StandsPut means None o) (sym none) tt);
         position = position;
-        no_record = no_record;
+        alters = altered;
         tells = says;
       }

@@ -11,9 +11,9 @@ use Rattle.slot_store.specs.Data.{SlotData, with_record}
 use Rattle.plan_log.specs.Journal.{AtWork, Idle, Intended, Committed}
 use Rattle.client_journal.specs.Devs.{ClientDevs, PutRecord, changed_by}
 use Rattle.client_journal.specs.NamedSlots.{NamedSlots, IsNotCommitted}
-use Rattle.step_tables.specs.ClientMoves.{Plan, TableDisk, ClientDisk, slots_in}
+use Rattle.step_tables.specs.ClientMoves.{Plan, TableDisk, ClientDisk, slots_in, opened_table}
 use Rattle.journal_laws.specs.Holds.{HoldsTables, StandsPlan, Stands}
-use Rattle.journal_laws.specs.Moves.{opened_table, opened_record}
+use Rattle.journal_laws.specs.Moves.{opened_record}
 use Rattle.journal_laws.proofs.Tables.{table_put}
 
 -- the record of a table without a row

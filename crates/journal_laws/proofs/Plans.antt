@@ -79,7 +79,7 @@ module _ (c : ℕ) (meaning : LocalName → List ℕ) (d : ClientDevs) (disk : C
   runs : Runs (Names means) d (plan_writes d.held intend plan.brought commit)
   runs = named_runs means (IsMoment means d.held commit) (λ ws e m. m.named) d (plan_writes d.held intend plan.brought commit) (plan_runs meaning d intend plan.brought commit st.named rest commits)
 
-  module _ (of : IsPlanOf means c commit p) (at : IsPlanAt disk p) (after : shape.after ≡ drop_steps plan.drops) where
+  module _ (of : IsPlanOf means c commit p) (at : IsPlanAt disk plan.new_record p) (after : shape.after ≡ drop_steps plan.drops) where
     abbrev idle : ClientDisk
     idle = record { last = disk.last; tables = disk.tables; plan = None }
 
@@ -96,7 +96,7 @@ module _ (c : ℕ) (meaning : LocalName → List ℕ) (d : ClientDevs) (disk : C
         → Runs (Names means) (at_ cs work) (PutCommit commit ∷ redo)
         → Follows c means (at_ cs work) (PutCommit commit ∷ redo) idle behind
     commit_follows cs work not_ is r =
-        let at_plan : IsPlanAt (record { last = disk.last; tables = disk.tables; plan = Some p }) p = record { last = at.last; opened = at.opened } in (
+        let at_plan : IsPlanAt (record { last = disk.last; tables = disk.tables; plan = Some p }) plan.new_record p = record { last = at.last; opened = at.opened } in (
           stands cs work not_ r.0,
           of,
           subst (λ (w : Planned). Follows c means (at_ cs w) redo (record { last = disk.last; tables = disk.tables; plan = Some p }) (rest_of shape p sends)) (sym is)

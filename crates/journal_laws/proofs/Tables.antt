@@ -166,6 +166,24 @@ module _ (meaning : LocalName → List ℕ) where
       numbered = h.numbered;
     }
 
+    -- the same, where the table stays as it is
+    pub table_again : lookup (is_at (nat_cmp made.table)) tables ≡ Some t → HoldsTables meaning (with_record held made) last tables
+    table_again there = record {
+      last_is = h.last_is;
+      records = λ q. subst (λ (o : Option TableDisk). StandsTable (record_of (with_record held made) q) o) (same q) (records_put q);
+      rows = h.rows;
+      held_all = h.held_all;
+      numbered = h.numbered;
+    }
+      where
+        same : (q : ℕ) → lookup (is_at (nat_cmp q)) every ≡ lookup (is_at (nat_cmp q)) tables
+        same q = pick (table_or_not tables made.table t q)
+          where
+            pick : (made.table ≡ q) ⊎ ((is_at (nat_cmp made.table) q ≡ false) × (lookup (is_at (nat_cmp q)) every ≡ lookup (is_at (nat_cmp q)) tables))
+                → lookup (is_at (nat_cmp q)) every ≡ lookup (is_at (nat_cmp q)) tables
+            pick (inl is) = subst (λ (x : ℕ). lookup (is_at (nat_cmp x)) every ≡ lookup (is_at (nat_cmp x)) tables) is (table_here tables made.table t ∙ sym there)
+            pick (inr other) = other.1
+
   -- the record of an opened table at a new position
   pub record_moved : (held : SlotData) (last : ℕ) (tables : List (ℕ × TableDisk)) (old : TableRecord) (at position : ℕ) (t : TableDisk) → HoldsTables meaning held last tables
       → record_of held at ≡ Some old → lookup (is_at (nat_cmp at)) tables ≡ Some t

@@ -139,6 +139,7 @@ module _ (c : ℕ) (meaning : LocalName → List ℕ) (d : ClientDisk) (table : 
         let t : Takes slots change made = acks slots.main slots.shadow slots.conflict slots.out in
         subst (λ (y : Change). Plans meaning c row (after slots y) (y.tells ++ tell.Position position ∷ []) (row_plan c d table row position made)) taken_is
         (record {
+          alters = refl;
           put = ap (λ (q : Slots). Some (record { row = row; slots = q })) (sym t.behind);
           tells = say_more c table (put_of made.slots) change.tells made.facts (tell.Position position) (facts.Position c table position) (t.tells made.slots) refl;
         })

@@ -175,6 +175,7 @@ module _ (c : ℕ) (meaning : LocalName → List ℕ) (d : ClientDisk) (table : 
         let v = version_whole slots.shadow in
         let read : ℕ = version_in w.shadow in
         record {
+          alters = refl;
           put = ap (λ (r : ℕ). Some (record { row = row; slots = record w { main = Some (main_of n r (whole meaning content)) } })) v;
           tells =
               ap (λ (x : Content). wrote_of n (held_version slots.shadow) x ∷ []) (content_main n read (whole meaning content) w.out)
@@ -187,6 +188,7 @@ module _ (c : ℕ) (meaning : LocalName → List ℕ) (d : ClientDisk) (table : 
         let v = version_whole slots.shadow in
         let read : ℕ = version_in w.shadow in
         record {
+          alters = refl;
           put =
               ap (λ (r : ℕ). Some (record {
                 row = row;
@@ -228,6 +230,7 @@ module _ (c : ℕ) (meaning : LocalName → List ℕ) (d : ClientDisk) (table : 
       let w : Slots = whole_slots meaning slots in
       let made : InFlight = out_of (whole_main meaning main) (version_in w.shadow) in
       record {
+        alters = refl;
         put =
             ap (λ (y : InFlight). Some (record { row = row; slots = record w { out = Some (spelled size w.shadow y) } })) (sym (some_is made x is))
             ∙ (ap (λ (r : ℕ). Some (record { row = row; slots = record w { out = Some (spelled size w.shadow (out_of (whole_main meaning main) r)) } })) (version_whole s)
@@ -248,6 +251,7 @@ module _ (c : ℕ) (meaning : LocalName → List ℕ) (d : ClientDisk) (table : 
 
     accepted_plans : (version : ℕ) → SpellsAll out → PlansChange meaning c row slots (accepted slots out version) (ack_plan c d table row (whole_slots meaning slots) (whole_out meaning out) version)
     accepted_plans version all = record {
+      alters = refl;
       put =
           ap (λ (m : Option Main). Some (record {
             row = row;
@@ -293,7 +297,7 @@ module _ (c : ℕ) (meaning : LocalName → List ℕ) (d : ClientDisk) (table : 
     pub lost_plans : (latest : ℕ) → PlansChange meaning c row slots (answered slots out.number (outcomes.Stale latest))
         (lost_plan c d table row (whole_slots meaning slots) (whole_out meaning out) latest)
     lost_plans latest = subst (λ (x : Change). PlansChange meaning c row slots x (lost_plan c d table row (whole_slots meaning slots) (whole_out meaning out) latest))
-        (sym (answered_is (outcomes.Stale latest))) (record { put = refl; tells = refl })
+        (sym (answered_is (outcomes.Stale latest))) (record { put = refl; alters = refl; tells = refl })
 
     sent_whole_is : out.whole ≡ false → answered slots out.number outcomes.NeedWhole
         ≡ record { slots = Some (record slots { out = Some (record out { whole = true; pieces = held_fresh 0 out.pieces }) }); tells = []; sends = send.Request }
@@ -306,6 +310,7 @@ module _ (c : ℕ) (meaning : LocalName → List ℕ) (d : ClientDisk) (table : 
         → PlansChange meaning c row slots (answered slots out.number outcomes.NeedWhole) (whole_plan d table row (whole_slots meaning slots) (whole_out meaning out))
     whole_plans all part = subst (λ (x : Change). PlansChange meaning c row slots x (whole_plan d table row (whole_slots meaning slots) (whole_out meaning out))) (sym (sent_whole_is part))
         (record {
+          alters = refl;
           put = ap (λ (l : List (List Piece)). Some (record {
             row = row;
             slots = record (whole_slots meaning slots) {
@@ -335,6 +340,7 @@ module _ (c : ℕ) (meaning : LocalName → List ℕ) (d : ClientDisk) (table : 
     rewritten_plans : (content : HeldContent) → PlansChange meaning c row slots (rewritten slots x main (d.last + 1) content)
         (over_plan c d table row (whole_slots meaning slots) (whole_main meaning main) (whole_shadow meaning x) (whole meaning content))
     rewritten_plans content = record {
+      alters = refl;
       put = refl;
       tells =
           ap (λ (y : Content). Some (facts.Resolved c main.number table row x.version) ∷ wrote_of (d.last + 1) x.version y ∷ [])
@@ -356,7 +362,7 @@ module _ (c : ℕ) (meaning : LocalName → List ℕ) (d : ClientDisk) (table : 
     pub theirs_plans : PlansChange meaning c row slots (resolved slots (d.last + 1) choices.Theirs)
         (theirs_plan c d table row (whole_slots meaning slots) (whole_main meaning main) (whole_shadow meaning x))
     theirs_plans = subst (λ (y : Change). PlansChange meaning c row slots y (theirs_plan c d table row (whole_slots meaning slots) (whole_main meaning main) (whole_shadow meaning x)))
-        (sym (resolved_is choices.Theirs)) (record { put = refl; tells = refl })
+        (sym (resolved_is choices.Theirs)) (record { put = refl; alters = refl; tells = refl })
 
 -- ---- what changes nothing
 

@@ -1,9 +1,11 @@
 -- What a client's three devices hold, as the disk of the client's step table; and device writes as tasks of its agenda.
-use Rattle.std.specs.Prelude.{◌≡◌, ℕ, ◌≤◌, ◌==◌, List, [], ◌∷◌, map, Option, Some, None, IsSome, if◌then◌else◌}
+use Rattle.std.specs.Prelude.{◌≡◌, ℕ, ◌≤◌, ◌==◌, Bool, true, false, List, [], ◌∷◌, map, Option, Some, None, IsSome}
+use Rattle.std.specs.Prelude.{if◌then◌else◌}
 use Rattle.std.specs.Ordering.{nat_cmp}
 use Rattle.std.specs.Map.{lookup}
 use Rattle.std.specs.BTreeMap.{is_at}
 use Rattle.stab_base.specs.declared.step.Step.TheVariants as steps
+use Rattle.row_value.specs.declared.schema.Schema.{Schema}
 use Rattle.row_value.specs.declared.content.Content.{Content}
 use Rattle.row_value.specs.declared.content.Content.TheVariants as contents
 use Rattle.held_value.specs.declared.local_name.LocalName.{LocalName}
@@ -14,6 +16,7 @@ use Rattle.slot_store.specs.declared.held.RowSlots.{RowSlots}
 use Rattle.slot_store.specs.declared.held.TableRecord.{TableRecord}
 use Rattle.slot_store.specs.Data.{SlotData, slots_of, record_of}
 use Rattle.plan_log.specs.declared.plan.RowChange.{RowChange}
+use Rattle.plan_log.specs.declared.plan.RecordChange.{RecordChange}
 use Rattle.plan_log.specs.declared.plan.Commit.{Commit}
 use Rattle.plan_log.specs.Journal.{AtWork, Idle, Intended, Committed}
 use Rattle.client_journal.specs.Devs.{ClientDevs, Write, changed_by}
@@ -25,7 +28,7 @@ use Rattle.step_tables.specs.Facts.{ClientFact}
 use Rattle.step_tables.specs.Facts as facts
 use Rattle.step_tables.specs.ClientMoves.{Slots, TableDisk, RowPut, Plan, ClientDisk, ClientChange, ClientTask}
 use Rattle.step_tables.specs.ClientMoves.{Commit as DoCommit, PutRow, PutTable, Finish, Keep, slots_in, table_at}
-use Rattle.step_tables.specs.ClientMoves.{changed}
+use Rattle.step_tables.specs.ClientMoves.{TableChange, Opens, Closes, opened_table, changed}
 use Rattle.journal_laws.specs.Whole.{whole_slots, AreHeld, AreNumbered}
 
 -- ---- what is held
@@ -37,9 +40,14 @@ abbrev pub slots_or_empty : Option RowSlots → HeldSlots
 slots_or_empty None = empty
 slots_or_empty (Some stored) = stored.slots
 
--- an opened table's record
+-- 1 opened, 2 closed
+abbrev pub state_of : Bool → ℕ
+state_of false = 1
+state_of true = 2
+
+-- the record of a table that was opened
 pub record IsRecordOf (held : TableRecord) (table : TableDisk) : Type 0 where
-  pub state : held.state ≡ 1
+  pub state : held.state ≡ state_of table.closed
   pub schema : held.schema ≡ table.schema
   pub position : held.position ≡ table.position
 
@@ -92,9 +100,11 @@ fact_of c table put (tell.Position position) = Some (facts.Position c table posi
 fact_of c table put tell.Opened = None
 fact_of c table put tell.Dropped = None
 
--- of a plan that puts no row a position alone is told
+-- of a plan that puts no row a position alone is told, or that the table is opened or closed
 abbrev pub fact_alone : ℕ → ℕ → Tell → Option ClientFact
 fact_alone c table (tell.Position position) = Some (facts.Position c table position)
+fact_alone c table tell.Opened = Some (facts.Opened c table)
+fact_alone c table tell.Dropped = Some (facts.Dropped c table)
 fact_alone c table told = None
 
 abbrev pub fact_in : ℕ → ℕ → Option RowPut → Tell → Option ClientFact
@@ -120,19 +130,50 @@ StandsPut meaning None (Some put) = ⊥
 StandsPut meaning (Some change) None = ⊥
 StandsPut meaning (Some change) (Some put) = IsPutOf meaning change put
 
+-- A table is opened with this state and this schema of its record, or closed with this state.
+abbrev pub IsAlteredTo : ℕ → Schema → TableChange → Type 0
+IsAlteredTo state schema (Opens opened) = (state ≡ 1) × (schema ≡ opened)
+IsAlteredTo state schema Closes = state ≡ 2
+
+-- The table's record gets a new state where the plan opens or closes the table. No row and no position changes then.
+abbrev pub StandsChange : Option RecordChange → Plan → Option TableChange → Type 0
+StandsChange None p None = Unit {0}
+StandsChange None p (Some alters) = ⊥
+StandsChange (Some change) p None = ⊥
+StandsChange (Some change) p (Some alters) =
+    IsAlteredTo change.state change.schema alters × (p.row ≡ None) × (p.position ≡ None)
+
 -- A commit of client c is this plan of the step table.
 pub record IsPlanOf (meaning : LocalName → List ℕ) (c : ℕ) (commit : Commit) (p : Plan) : Type 0 where
   pub last : commit.last ≡ p.last
   pub table : commit.table ≡ p.table
   pub row : StandsPut meaning commit.row p.row
   pub position : commit.position ≡ p.position
-  pub no_record : commit.new_record ≡ None
+  pub alters : StandsChange commit.new_record p p.alters
   pub tells : Say c p.table p.row commit.tells p.facts
 
--- a plan of an opened table, whose number isn't below the last
-pub record IsPlanAt (disk : ClientDisk) (p : Plan) : Type 0 where
+-- there is no such table, or it is as it was opened
+abbrev pub MayOpen : Schema → Option TableDisk → Type 0
+MayOpen schema None = Unit {0}
+MayOpen schema (Some table) = table ≡ opened_table schema
+
+-- the table is there, and its new record keeps its schema
+abbrev pub MayClose : Option RecordChange → Option TableDisk → Type 0
+MayClose None there = ⊥
+MayClose (Some change) None = ⊥
+MayClose (Some change) (Some table) = change.schema ≡ table.schema
+
+-- the table of a plan that opens or closes it, or does neither: then it is there
+abbrev pub IsTableFor : Option RecordChange → Option TableDisk → Option TableChange → Type 0
+IsTableFor change there None = IsSome there
+IsTableFor change there (Some (Opens schema)) = MayOpen schema there
+IsTableFor change there (Some Closes) = MayClose change there
+
+-- A plan with this change of its table's record, whose number isn't below the last. It is of an opened table, if it
+-- doesn't open it.
+pub record IsPlanAt (disk : ClientDisk) (change : Option RecordChange) (p : Plan) : Type 0 where
   pub last : disk.last ≤ p.last
-  pub opened : IsSome (table_at disk p.table)
+  pub opened : IsTableFor change (table_at disk p.table) p.alters
 
 abbrev pub StandsPlan : (LocalName → List ℕ) → ℕ → ClientDisk → AtWork → Option Plan → Type 0
 StandsPlan meaning c disk Idle None = Unit {0}
@@ -140,7 +181,8 @@ StandsPlan meaning c disk Idle (Some p) = ⊥
 StandsPlan meaning c disk (Intended intend) None = Unit {0}
 StandsPlan meaning c disk (Intended intend) (Some p) = ⊥
 StandsPlan meaning c disk (Committed commit) None = ⊥
-StandsPlan meaning c disk (Committed commit) (Some p) = IsPlanOf meaning c commit p × IsPlanAt disk p
+StandsPlan meaning c disk (Committed commit) (Some p) =
+    IsPlanOf meaning c commit p × IsPlanAt disk commit.new_record p
 
 -- ---- the devices
 
@@ -159,10 +201,15 @@ pub record IsRowOf (meaning : LocalName → List ℕ) (row : RowSlots) (p : Plan
   pub last : row.last ≡ p.last
   pub put : p.row ≡ Some (record { row = row.row; slots = whole_slots meaning row.slots })
 
--- this record is of the plan's table, at its position
+-- at the plan's position, or as the plan opens or closes the table
+abbrev pub IsPutFor : TableRecord → Plan → Option TableChange → Type 0
+IsPutFor table p None = p.position ≡ Some table.position
+IsPutFor table p (Some alters) = IsAlteredTo table.state table.schema alters
+
+-- this record is what the plan makes of its table
 pub record IsTableOf (table : TableRecord) (p : Plan) : Type 0 where
   pub table_is : table.table ≡ p.table
-  pub position : p.position ≡ Some table.position
+  pub put : IsPutFor table p p.alters
 
 -- a device write as a change of the step table's disk
 abbrev pub IsWriteOf : ℕ → (LocalName → List ℕ) → Write → ClientChange → Type 0

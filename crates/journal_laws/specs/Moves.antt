@@ -30,14 +30,11 @@ use Rattle.step_tables.specs.Chunks.{all_against, objects_of, cut}
 use Rattle.step_tables.specs.Facts.{Shown}
 use Rattle.step_tables.specs.Facts as facts
 use Rattle.step_tables.specs.Messages.{Header}
-use Rattle.step_tables.specs.ClientMoves.{TableDisk, Plan, ClientDisk, ClientTask, ClientStep, Shape, chunks_read}
+use Rattle.step_tables.specs.ClientMoves.{Plan, ClientDisk, ClientTask, ClientStep, Shape, chunks_read}
 use Rattle.journal_laws.specs.Whole.{whole, whole_shadow, whole_slots, pieces_by, HaveLens}
 use Rattle.journal_laws.specs.Holds.{Say}
 
 -- ---- a table that is declared
-
-abbrev pub opened_table : Schema → TableDisk
-opened_table schema = record { schema = schema; position = 0; rows = [] }
 
 abbrev pub opened_record : ℕ → Schema → TableRecord
 opened_record table schema = record { table = table; state = 1; schema = schema; position = 0 }
@@ -78,10 +75,11 @@ pub record IsStartShape (shape : Shape) (dropped : List LocalName) : Type 0 wher
 
 -- ---- a change of a row's slots as a plan
 
--- The plan puts these slots of the row, whole, and its facts are what these tells say.
+-- The plan puts these slots of the row, whole, its facts are what these tells say, and it opens and closes no table.
 pub record Plans (meaning : LocalName → List ℕ) (c : ℕ) (row : List ℕ) (slots : HeldSlots) (told : List Tell)
     (p : Plan) : Type 0 where
   pub put : p.row ≡ Some (record { row = row; slots = whole_slots meaning slots })
+  pub alters : p.alters ≡ None
   pub tells : Say c p.table p.row told p.facts
 
 -- what a name stands for in a plan's slots, before the brought chunks get its number

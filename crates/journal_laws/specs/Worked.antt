@@ -34,7 +34,7 @@ no_row = record {
 abbrev pub no_row_disk : ClientDisk
 no_row_disk = record {
   last = 0;
-  tables = (1, record { schema = small_schema; position = 0; rows = [] }) ∷ [];
+  tables = (1, tables.opened_table small_schema) ∷ [];
   plan = None;
 }
 

@@ -45,13 +45,14 @@ ghost use Rattle.step_tables.specs.Messages.{Send};
 ghost use Rattle.step_tables.specs.ClientMoves.{Plan, Shape, ClientDisk, ClientTask, changed, begun, resumed, shown_in};
 ghost use Rattle.step_tables.specs.ClientMoves.{slots_in, table_at, write_plan, strong_plan, to_send, send_plan};
 ghost use Rattle.step_tables.specs.ClientMoves.{ack_plan, lost_plan, row_placed, row_plan, top, over_plan};
-ghost use Rattle.step_tables.specs.ClientMoves.{theirs_plan, seen, row_out, whole_plan, known};
+ghost use Rattle.step_tables.specs.ClientMoves.{theirs_plan, seen, row_out, whole_plan, known, opened_table};
 ghost use Rattle.journal_laws.specs.Whole.{whole, whole_object, whole_main, whole_shadow, whole_out, whole_slots};
 ghost use Rattle.journal_laws.specs.Whole.{SpellsAll, AreHeld, names_known};
 ghost use Rattle.journal_laws.specs.Holds.{IsPlanOf, IsPlanAt, Say, Stands, Follows, HoldsTables, slots_or_empty};
+ghost use Rattle.journal_laws.specs.Holds.{StandsChange};
 ghost use Rattle.journal_laws.specs.Moves.{shown_with, tasks_of, IsPlanShape, IsStartShape, Plans, PlansChange};
 ghost use Rattle.journal_laws.specs.Moves.{IsStill, IsNewTo, header_of, plan_meaning, AreShownChunks, object_of};
-ghost use Rattle.journal_laws.specs.Moves.{HoldsEvent, Spells, opened_table, opened_record, nothing_there};
+ghost use Rattle.journal_laws.specs.Moves.{HoldsEvent, Spells, opened_record, nothing_there};
 ghost use Rattle.journal_laws.specs.Worked.{no_row, no_row_disk, nothing_meant, two_chunks, row_id, first_writes};
 ghost use Rattle.journal_laws.specs.Worked.{first_tasks, all_changed, names_of_writes, names_of_tasks};
 
@@ -86,7 +87,7 @@ pub fn what_is_redone_is_what_is_seen()
 pub fn devices_that_do_not_stand()
     ensures number { (meaning : LocalName → List ℕ) → Stands 4 meaning no_row (record no_row_disk { last = 1 }) → ⊥ }
     ensures position { (meaning : LocalName → List ℕ) → Stands 4 meaning no_row (record no_row_disk {
-      tables = (1, record { schema = small_schema; position = 1; rows = [] }) ∷ [];
+      tables = (1, record (opened_table small_schema) { position = 1 }) ∷ [];
     }) → ⊥ }
     ensures no_table { (meaning : LocalName → List ℕ)
         → Stands 4 meaning no_row (record no_row_disk { tables = [] }) → ⊥ }
@@ -119,8 +120,8 @@ pub fn a_plan_follows()
     ensures { (c : ℕ) (meaning : LocalName → List ℕ) (d : ClientDevs) (disk : ClientDisk) (number : ℕ) (plan : Begun)
         (p : Plan) (shape : Shape) (answer : Answer) (sends : List Send)
         → Stands c meaning d disk → IsAtRest d → IsPlan d plan → d.journal.greatest < number
-        → IsPlanOf (meaning_with meaning number plan.brought) c (commit_for number plan) p → IsPlanAt disk p
-        → IsPlanShape shape plan.brought plan.drops
+        → IsPlanOf (meaning_with meaning number plan.brought) c (commit_for number plan) p
+        → IsPlanAt disk plan.new_record p → IsPlanShape shape plan.brought plan.drops
         → Follows c (meaning_with meaning number plan.brought) d
         (plan_writes d.held (intend_for number plan) plan.brought (commit_for number plan)) disk
         (tasks_of (begun shape disk answer p sends)) }
@@ -150,8 +151,9 @@ pub fn plans_are_of_the_table()
     ensures no_row { (c : ℕ) (meaning : LocalName → List ℕ) (d : ClientDevs) (disk : ClientDisk) (number : ℕ)
         (plan : Begun) (p : Plan)
         → Stands c meaning d disk → IsAtRest d → IsPlan d plan → d.journal.greatest < number
-        → plan.table ≡ p.table → plan.last ≡ p.last → plan.position ≡ p.position → plan.new_record ≡ None
-        → plan.row ≡ None → p.row ≡ None → Say c p.table p.row plan.tells p.facts
+        → plan.table ≡ p.table → plan.last ≡ p.last → plan.position ≡ p.position
+        → StandsChange plan.new_record p p.alters → plan.row ≡ None → p.row ≡ None
+        → Say c p.table p.row plan.tells p.facts
         → IsPlanOf (meaning_with meaning number plan.brought) c (commit_for number plan) p }
     ensures before { (c : ℕ) (meaning : LocalName → List ℕ) (d : ClientDevs) (disk : ClientDisk) (number : ℕ)
         (brought : List (List ℕ)) (table : ℕ) (row : List ℕ)

@@ -5,14 +5,14 @@ use Rattle.slot_store.specs.declared.held.TableRecord.{TableRecord}
 use Rattle.slot_store.specs.Spelling.{HasRecordSpelling, record_payload}
 use Rattle.client_journal.specs.Devs.{PutRecord, changed_by}
 use Rattle.client_journal.specs.Standing.{devs}
-use Rattle.client_node.proofs.Making.{cause_memory, cause_ok, cause_err, opened_spelled}
+use Rattle.client_node.proofs.Making.{cause_memory, cause_ok, cause_err, opened_spelled, opened_short}
 use Rattle.client_node.proofs.devices.put_opened.Goals as goal
 
 pub declare-requires-clause-spelled : goal.declare-requires-clause-spelled
 declare-requires-clause-spelled g c = subst HasRecordSpelling (sym c.in_ok-made.ensures) (opened_spelled c.args.table.now c.requires.opens)
 
 pub declare-requires-clause-short : goal.declare-requires-clause-short
-declare-requires-clause-short g c = subst (λ (r : TableRecord). length (record_payload r) ≤ payload_most) (sym c.in_ok-made.ensures) c.requires.opens.short
+declare-requires-clause-short g c = subst (λ (r : TableRecord). length (record_payload r) ≤ payload_most) (sym c.in_ok-made.ensures) (opened_short c.args.table.now c.requires.opens)
 
 pub returns-in_err-made-clause-cause : goal.returns-in_err-made-clause-cause
 returns-in_err-made-clause-cause g c =

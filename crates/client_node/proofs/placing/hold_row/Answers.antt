@@ -60,4 +60,4 @@ returns-clause-holds g c meaning there =
     let shown = c.in_ok-shown.ensures.chunks meaning (subst (λ (o : Option HeldContent). AreThereIf meaning (devs g.D.Disk.state c.args.devs.now) o) (sym c.shown_content.ensures) there.shown) ∙ ap (chunks_shown meaning) c.shown_content.ensures in
     let more : c.in_ok-read.read ++ c.in_ok-read.conflict ≡ chunks_behind meaning c.args.slots.now = c.in_ok-read.ensures.chunks meaning (subst (λ (d : ClientDevs). IsRowThere meaning d c.args.slots.now) (sym same) there) in
     subst (λ (l : List (List (HeldPiece × List ℕ))). HoldsKept c.args.size l (chunks_behind meaning c.args.slots.now) c.args.content.now c.args.names.now made) shown
-    (subst (λ (l : List (List (HeldPiece × List ℕ))). HoldsKept c.args.size c.in_ok-shown.shown l c.args.content.now c.args.names.now made) more c.in_ok-held.ensures)
+    (subst (λ (l : List (List (HeldPiece × List ℕ))). HoldsKept c.args.size c.in_ok-shown.shown l c.args.content.now c.args.names.now made) more c.in_ok-held.ensures.kept)

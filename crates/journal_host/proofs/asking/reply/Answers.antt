@@ -10,6 +10,9 @@ use Rattle.journal_host.specs.Phases.{answer_in}
 use Rattle.journal_host.proofs.Phased.{keeps_moves}
 use Rattle.journal_host.proofs.asking.reply.Goals as goal
 
+pub answer-requires : goal.answer-requires
+answer-requires g c = record { node = c.requires.node; up = c.requires.up }
+
 pub returns-in-Ask-clause-made : goal.returns-in-Ask-clause-made
 returns-in-Ask-clause-made g c s t fits = rw c.in-Ask.is (c.answer.ensures.made s t)
 
@@ -99,7 +102,7 @@ returns-in-ResolveBy-clause-phases g c s = rw c.in-ResolveBy.is
     c.resolve_by.ensures.phases)
 
 pub ask_whole-requires : goal.ask_whole-requires
-ask_whole-requires g c = record { node = c.requires.node; up = c.requires.up; some = λ none. (rw c.in-AskWhole.is at c.requires.some) (sym c.as_slice-in-AskWhole.ensures ∙ none) }
+ask_whole-requires g c = record { node = c.requires.node; up = c.requires.up; some = λ none. (rw c.in-AskWhole.is at c.requires.may) (sym c.as_slice-in-AskWhole.ensures ∙ none) }
 
 pub returns-in-AskWhole-clause-made : goal.returns-in-AskWhole-clause-made
 returns-in-AskWhole-clause-made g c s t fits = rw c.in-AskWhole.is
@@ -122,3 +125,46 @@ returns-in-AskWhole-clause-pairs g c s count t is = rw c.in-AskWhole.is tt
 pub returns-in-AskWhole-clause-phases : goal.returns-in-AskWhole-clause-phases
 returns-in-AskWhole-clause-phases g c s = rw c.in-AskWhole.is
     (keeps_moves c.args.node.now c.ask_whole.new.self (moves.Next c.in-AskWhole.table c.in-AskWhole.tears c.in-AskWhole.asks) (answer_in c.done-in-AskWhole.result) (λ phase table. refl) c.ask_whole.ensures.phases)
+
+pub open_table-requires : goal.open_table-requires
+open_table-requires g c = record { node = c.requires.node; up = c.requires.up; opens = rw c.in-Open.is at c.requires.may }
+
+pub returns-in-Open-clause-made : goal.returns-in-Open-clause-made
+returns-in-Open-clause-made g c s t fits = rw c.in-Open.is
+    (replies g.D.Disk.state g.D.Disk.images s c.args.node.now c.open_table.new.self (moves.Alter c.in-Open.table (moves.Opens c.in-Open.schema)) (λ x. facts.Done) (λ x. answers.Done) (λ x. refl)
+    c.open_table.result c.done-in-Open.result c.done-in-Open.ensures (c.open_table.ensures.does s t))
+
+pub returns-in-Open-clause-dropped : goal.returns-in-Open-clause-dropped
+returns-in-Open-clause-dropped g c s t unfit = let bad = rw c.in-Open.is at unfit in absurd (bad tt)
+
+pub returns-in-Open-clause-spent : goal.returns-in-Open-clause-spent
+returns-in-Open-clause-spent g c s t fits last is =
+    spent g.D.Disk.state g.D.Disk.images s c.args.node.now c.open_table.new.self (moves.Alter c.in-Open.table (moves.Opens c.in-Open.schema)) (λ x. facts.Done) (λ x. answers.Done) (λ x. refl)
+    c.open_table.result c.done-in-Open.result c.done-in-Open.ensures (c.open_table.ensures.does s t) last is
+
+pub returns-in-Open-clause-pairs : goal.returns-in-Open-clause-pairs
+returns-in-Open-clause-pairs g c s count t is = rw c.in-Open.is tt
+
+pub returns-in-Open-clause-phases : goal.returns-in-Open-clause-phases
+returns-in-Open-clause-phases g c s = rw c.in-Open.is
+    (keeps_moves c.args.node.now c.open_table.new.self (moves.Alter c.in-Open.table (moves.Opens c.in-Open.schema)) (answer_in c.done-in-Open.result) (λ phase table. refl) c.open_table.ensures.phases)
+
+pub returns-in-Close-clause-made : goal.returns-in-Close-clause-made
+returns-in-Close-clause-made g c s t fits = rw c.in-Close.is
+    (replies g.D.Disk.state g.D.Disk.images s c.args.node.now c.close_table.new.self (moves.Alter c.in-Close.table moves.Closes) (λ x. facts.Done) (λ x. answers.Done) (λ x. refl)
+    c.close_table.result c.done-in-Close.result c.done-in-Close.ensures (c.close_table.ensures.does s t))
+
+pub returns-in-Close-clause-dropped : goal.returns-in-Close-clause-dropped
+returns-in-Close-clause-dropped g c s t unfit = let bad = rw c.in-Close.is at unfit in absurd (bad tt)
+
+pub returns-in-Close-clause-spent : goal.returns-in-Close-clause-spent
+returns-in-Close-clause-spent g c s t fits last is =
+    spent g.D.Disk.state g.D.Disk.images s c.args.node.now c.close_table.new.self (moves.Alter c.in-Close.table moves.Closes) (λ x. facts.Done) (λ x. answers.Done) (λ x. refl)
+    c.close_table.result c.done-in-Close.result c.done-in-Close.ensures (c.close_table.ensures.does s t) last is
+
+pub returns-in-Close-clause-pairs : goal.returns-in-Close-clause-pairs
+returns-in-Close-clause-pairs g c s count t is = rw c.in-Close.is tt
+
+pub returns-in-Close-clause-phases : goal.returns-in-Close-clause-phases
+returns-in-Close-clause-phases g c s = rw c.in-Close.is
+    (keeps_moves c.args.node.now c.close_table.new.self (moves.Alter c.in-Close.table moves.Closes) (answer_in c.done-in-Close.result) (λ phase table. refl) c.close_table.ensures.phases)

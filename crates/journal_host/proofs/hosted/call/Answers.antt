@@ -1,65 +1,37 @@
-use Rattle.std.proofs.Common.{refl, sym, ◌∙◌}
-use Rattle.client_node.proofs.PlanNumbers.{next_below}
+use Rattle.std.proofs.Common.{◌≡◌, inl, inr, true, Some, refl, sym, ◌∙◌}
+use Rattle.table_model.specs.declared.line.Answer.TheVariants as answers
+use Rattle.table_model.specs.declared.line.Refusal.TheVariants as refusals
 use Rattle.stab_base.specs.declared.node.Node.TheVariants as nodes
 use Rattle.client_node.specs.Phases.{is_open}
 use Rattle.step_tables.specs.Facts as facts
 use Rattle.journal_host.specs.Asks.{asked_by}
+use Rattle.journal_host.specs.Steps.{IsMade}
 use Rattle.journal_host.proofs.Phased.{refusal_leaves}
+use Rattle.journal_host.proofs.NodeCalls.{ends_none, asked_where}
 use Rattle.journal_host.proofs.hosted.call.Goals as goal
 
-pub call_up-requires : goal.call_up-requires
-call_up-requires g c = record { node = c.requires.node; up = sym c.is_up.ensures ∙ c.if-is_up.true; some = c.requires.some }
+pub call_guarded-requires : goal.call_guarded-requires
+call_guarded-requires g c = record { node = c.requires.node; up = sym c.is_up.ensures ∙ c.if-is_up.true; may = c.requires.may }
 
-pub returns-then-is_up-clause-made : goal.returns-then-is_up-clause-made
-returns-then-is_up-clause-made g c cut s h fits up = c.call_up.ensures.made cut s h fits
-
-pub returns-then-is_up-clause-dropped : goal.returns-then-is_up-clause-dropped
-returns-then-is_up-clause-dropped g c cut s h unfit up = c.call_up.ensures.dropped cut s h unfit
-
-pub returns-then-is_up-clause-spent : goal.returns-then-is_up-clause-spent
-returns-then-is_up-clause-spent g c cut s n h below fits = c.call_up.ensures.spent cut s n h below fits
-
-pub returns-then-is_up-clause-kept : goal.returns-then-is_up-clause-kept
-returns-then-is_up-clause-kept g c cut s h = c.call_up.ensures.kept cut s h
-
-pub returns-then-is_up-clause-cause : goal.returns-then-is_up-clause-cause
-returns-then-is_up-clause-cause g c = c.call_up.ensures.cause
+pub returns-then-is_up-clause-asked : goal.returns-then-is_up-clause-asked
+returns-then-is_up-clause-asked g c =
+    asked_where (c.args.node.now.is_up ≡ true) g.D.Disk.state c.args.client c.args.node.now c.call_guarded.new.node c.args.outs.now.items c.call_guarded.new.outs.items c.call_guarded.new.pairs
+    c.call_guarded.result c.args.request
+    (λ cut s answer. IsMade g.D.Disk.state (is_open c.args.node.now) cut c.args.client s (asked_by (Some s) c.args.request) c.call_guarded.new.node c.args.outs.now.items c.call_guarded.new.outs.items answer)
+    c.call_guarded.ensures
 
 pub returns-then-is_up-clause-down : goal.returns-then-is_up-clause-down
 returns-then-is_up-clause-down g c down = let up = sym c.is_up.ensures ∙ c.if-is_up.true in absurd cc
 
-pub returns-clause-made : goal.returns-clause-made
-returns-clause-made g c cut s h fits up = let down = sym c.is_up.ensures ∙ c.if-is_up.false in absurd cc
-
-pub returns-clause-dropped : goal.returns-clause-dropped
-returns-clause-dropped g c cut s h unfit up = let down = sym c.is_up.ensures ∙ c.if-is_up.false in absurd cc
+pub returns-clause-asked : goal.returns-clause-asked
+returns-clause-asked g c = let down = sym c.is_up.ensures ∙ c.if-is_up.false in record {
+  made = λ cut s h fits. inl (λ up. absurd cc);
+  dropped = λ cut s h unfit. inr (inl (λ up. absurd cc));
+  spent = λ cut s n h below fits. tt;
+  pairs = λ cut s count h is. absurd cc;
+  phases = λ s up table. sym (refusal_leaves (asked_by s c.args.request) (facts.NodeDown (nodes.Client c.args.client)) (is_open c.args.node.now) table);
+  ends = ends_none g.D.Disk.state c.args.client c.args.node.now c.args.outs.now.items (answers.Refused (refusals.Down (nodes.Client c.args.client))) (λ bad. absurd cc);
+}
 
 pub returns-clause-down : goal.returns-clause-down
 returns-clause-down g c down = (refl, refl, refl)
-
-pub returns-clause-spent : goal.returns-clause-spent
-returns-clause-spent g c cut s n h below fits = tt
-
-pub returns-clause-kept : goal.returns-clause-kept
-returns-clause-kept g c cut s h = tt
-
-pub returns-clause-cause : goal.returns-clause-cause
-returns-clause-cause g c = record { counted = λ is. refl; cause = λ bad. absurd cc }
-
-pub returns-then-is_up-clause-plans : goal.returns-then-is_up-clause-plans
-returns-then-is_up-clause-plans g c n below = c.call_up.ensures.plans n below
-
-pub returns-clause-plans : goal.returns-clause-plans
-returns-clause-plans g c n below = next_below g.D.Disk.state n c.args.node.now below
-
-pub returns-then-is_up-clause-phases : goal.returns-then-is_up-clause-phases
-returns-then-is_up-clause-phases g c s = c.call_up.ensures.phases s
-
-pub returns-clause-phases : goal.returns-clause-phases
-returns-clause-phases g c s up table = sym (refusal_leaves (asked_by s c.args.request) (facts.NodeDown (nodes.Client c.args.client)) (is_open c.args.node.now) table)
-
-pub returns-then-is_up-clause-pairs : goal.returns-then-is_up-clause-pairs
-returns-then-is_up-clause-pairs g c cut s count h is = c.call_up.ensures.pairs cut s count h is
-
-pub returns-clause-pairs : goal.returns-clause-pairs
-returns-clause-pairs g c cut s count h is = absurd cc

@@ -1,48 +1,35 @@
-use Rattle.std.proofs.Common.{refl, sym, ◌∙◌}
-use Rattle.client_node.proofs.PlanNumbers.{next_below}
+use Rattle.std.proofs.Common.{◌≡◌, inl, inr, true, false, refl, sym, ◌∙◌}
+use Rattle.table_model.specs.declared.line.Answer.TheVariants as answers
+use Rattle.table_model.specs.declared.line.Refusal.TheVariants as refusals
+use Rattle.stab_base.specs.declared.node.Node.TheVariants as nodes
+use Rattle.step_tables.specs.ClientMoves.{Conflicts}
+use Rattle.client_node.specs.Phases.{is_open}
+use Rattle.journal_host.specs.Steps.{IsMade, IsListing, IsShut}
+use Rattle.journal_host.proofs.NodeCalls.{ends_none, listed_where}
 use Rattle.journal_host.proofs.hosted.list.Goals as goal
 
-pub list_up-requires : goal.list_up-requires
-list_up-requires g c = record { node = c.requires; up = sym c.is_up.ensures ∙ c.if-is_up.true }
+pub list_guarded-requires : goal.list_guarded-requires
+list_guarded-requires g c = record { node = c.requires; up = sym c.is_up.ensures ∙ c.if-is_up.true }
 
 pub returns-then-is_up-clause-listed : goal.returns-then-is_up-clause-listed
-returns-then-is_up-clause-listed g c cut s h up = c.list_up.ensures.listed cut s h
+returns-then-is_up-clause-listed g c =
+    listed_where (c.args.node.now.is_up ≡ true) g.D.Disk.state c.args.client c.args.node.now c.list_guarded.new.node c.args.outs.now.items c.list_guarded.new.outs.items c.list_guarded.new.pairs
+    c.list_guarded.result c.args.pairs.now
+    (λ cut s answer. IsShut s (Conflicts c.args.table) false
+    × IsListing g.D.Disk.state (is_open c.args.node.now) cut c.args.client s c.args.table c.list_guarded.new.node c.args.outs.now.items c.list_guarded.new.outs.items c.list_guarded.new.pairs answer)
+    (λ cut s answer. IsMade g.D.Disk.state (is_open c.args.node.now) cut c.args.client s (Conflicts c.args.table) c.list_guarded.new.node c.args.outs.now.items c.list_guarded.new.outs.items answer)
+    c.list_guarded.ensures
 
 pub returns-then-is_up-clause-down : goal.returns-then-is_up-clause-down
 returns-then-is_up-clause-down g c down = let up = sym c.is_up.ensures ∙ c.if-is_up.true in absurd cc
 
-pub returns-then-is_up-clause-spent : goal.returns-then-is_up-clause-spent
-returns-then-is_up-clause-spent g c cut s n h below = c.list_up.ensures.spent cut s n h below
-
-pub returns-then-is_up-clause-kept : goal.returns-then-is_up-clause-kept
-returns-then-is_up-clause-kept g c cut s h = c.list_up.ensures.kept cut s h
-
-pub returns-then-is_up-clause-phases : goal.returns-then-is_up-clause-phases
-returns-then-is_up-clause-phases g c = c.list_up.ensures.phases
-
-pub returns-then-is_up-clause-cause : goal.returns-then-is_up-clause-cause
-returns-then-is_up-clause-cause g c = c.list_up.ensures.cause
-
-pub returns-then-is_up-clause-plans : goal.returns-then-is_up-clause-plans
-returns-then-is_up-clause-plans g c n below = c.list_up.ensures.plans n below
-
 pub returns-clause-listed : goal.returns-clause-listed
-returns-clause-listed g c cut s h up = let down = sym c.is_up.ensures ∙ c.if-is_up.false in absurd cc
+returns-clause-listed g c = let down = sym c.is_up.ensures ∙ c.if-is_up.false in record {
+  listed = λ cut s h. inr (refl, inl (λ up. absurd cc));
+  spent = λ cut s n h below. tt;
+  phases = λ up. refl;
+  ends = ends_none g.D.Disk.state c.args.client c.args.node.now c.args.outs.now.items (answers.Refused (refusals.Down (nodes.Client c.args.client))) (λ bad. absurd cc);
+}
 
 pub returns-clause-down : goal.returns-clause-down
 returns-clause-down g c down = (refl, refl, refl, refl)
-
-pub returns-clause-spent : goal.returns-clause-spent
-returns-clause-spent g c cut s n h below = tt
-
-pub returns-clause-kept : goal.returns-clause-kept
-returns-clause-kept g c cut s h = tt
-
-pub returns-clause-phases : goal.returns-clause-phases
-returns-clause-phases g c up = refl
-
-pub returns-clause-cause : goal.returns-clause-cause
-returns-clause-cause g c = record { counted = λ is. refl; cause = λ bad. absurd cc }
-
-pub returns-clause-plans : goal.returns-clause-plans
-returns-clause-plans g c n below = next_below g.D.Disk.state n c.args.node.now below

@@ -3,6 +3,9 @@ use Rattle.journal_host.specs.declared.asking.Request.TheVariants as requests
 use Rattle.journal_host.proofs.Clients.{fits_at}
 use Rattle.journal_host.proofs.host.ClientHost.ask.Goals as goal
 
+pub call-requires : goal.call-requires
+call-requires g c = record { clients = c.requires; may = tt }
+
 pub returns-clause-called : goal.returns-clause-called
 returns-clause-called g c w h = c.call.ensures.called w h (fits_at (client_at w c.args.client) (requests.Ask c.args.ask) (λ d. tt))
 

@@ -12,29 +12,29 @@ pub returns-in-Some-clause-called : goal.returns-in-Some-clause-called
 returns-in-Some-clause-called g c w h =
     client_lists g.D.Disk.state w c.args.self.now (record c.args.self.now { clients = c.get_mut.follows.lender c.list.new.node; outs = c.list.new.outs }) c.args.client c.in-Some.node.now
     c.list.new.node h c.in-Some.ensures.value
-    ((c.get_mut.follows.holds c.list.new.node).3 (some_there _ _ c.in-Some.ensures.value)).0 c.args.table c.list.ensures.phases c.list.result c.list.new.pairs c.args.pairs.now c.requires.none c.list.ensures.down c.list.ensures.listed
+    ((c.get_mut.follows.holds c.list.new.node).3 (some_there _ _ c.in-Some.ensures.value)).0 c.args.table c.list.ensures.listed.phases c.list.result c.list.new.pairs c.args.pairs.now c.requires.none c.list.ensures.down c.list.ensures.listed.listed
 
 pub returns-in-Some-clause-spent : goal.returns-in-Some-clause-spent
 returns-in-Some-clause-spent g c w n h below =
     list_spent g.D.Disk.state w c.args.self.now (record c.args.self.now { clients = c.get_mut.follows.lender c.list.new.node; outs = c.list.new.outs }) c.args.client c.in-Some.node.now
     c.list.new.node h c.in-Some.ensures.value
-    ((c.get_mut.follows.holds c.list.new.node).3 (some_there _ _ c.in-Some.ensures.value)).0 c.args.table c.list.ensures.phases c.list.result n below c.list.ensures.spent
+    ((c.get_mut.follows.holds c.list.new.node).3 (some_there _ _ c.in-Some.ensures.value)).0 c.args.table c.list.ensures.listed.phases c.list.result n below c.list.ensures.listed.spent
 
 pub returns-in-Some-clause-kept : goal.returns-in-Some-clause-kept
 returns-in-Some-clause-kept g c w h =
     list_stays g.D.Disk.state w c.args.self.now (record c.args.self.now { clients = c.get_mut.follows.lender c.list.new.node; outs = c.list.new.outs }) c.args.client c.in-Some.node.now
     c.list.new.node h c.in-Some.ensures.value
-    ((c.get_mut.follows.holds c.list.new.node).3 (some_there _ _ c.in-Some.ensures.value)).0 c.args.table c.list.ensures.phases c.list.result c.list.ensures.kept
+    ((c.get_mut.follows.holds c.list.new.node).3 (some_there _ _ c.in-Some.ensures.value)).0 c.args.table c.list.ensures.listed.phases c.list.result c.list.ensures.listed.ends.kept
 
 pub returns-in-Some-clause-cause : goal.returns-in-Some-clause-cause
 returns-in-Some-clause-cause g c =
     client_cause g.D.Disk.state c.args.self.now.clients (c.get_mut.follows.lender c.list.new.node) c.args.client c.in-Some.node.now c.list.new.node c.in-Some.ensures.value
-    ((c.get_mut.follows.holds c.list.new.node).3 (some_there _ _ c.in-Some.ensures.value)).0 c.list.result c.list.ensures.cause
+    ((c.get_mut.follows.holds c.list.new.node).3 (some_there _ _ c.in-Some.ensures.value)).0 c.list.result c.list.ensures.listed.ends.cause
 
 pub returns-in-Some-clause-plans : goal.returns-in-Some-clause-plans
 returns-in-Some-clause-plans g c n below =
     plans_more g.D.Disk.state c.args.self.now.clients (c.get_mut.follows.lender c.list.new.node) c.args.client c.list.new.node
-    ((c.get_mut.follows.holds c.list.new.node).3 (some_there _ _ c.in-Some.ensures.value)).0 c.in-Some.node.now c.in-Some.ensures.value n below (c.list.ensures.plans n)
+    ((c.get_mut.follows.holds c.list.new.node).3 (some_there _ _ c.in-Some.ensures.value)).0 c.in-Some.node.now c.in-Some.ensures.value n below (c.list.ensures.listed.ends.plans n)
 
 pub returns-in-None-clause-called : goal.returns-in-None-clause-called
 returns-in-None-clause-called g c w h =

@@ -57,6 +57,7 @@ stores_same w other plain = refl
 
 schemas_same : (w : AWorld) (event : Event) (lucks : Lucks) → is_declaration event ≡ false → schemas_by w event lucks ≡ w.schemas
 schemas_same w (events.Table table schema) lucks plain = absurd (true≢false plain)
+schemas_same w (events.Draft table schema) lucks plain = absurd (true≢false plain)
 schemas_same w other lucks plain = refl
 
 going : (v : Wire) → wire_reached.IsReached v → IsGoing v

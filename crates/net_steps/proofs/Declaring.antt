@@ -8,6 +8,8 @@ use Rattle.row_value.specs.declared.schema.Schema.{Schema}
 use Rattle.table_model.specs.declared.event.Event.{Event}
 use Rattle.stab_base.specs.declared.node.Node.TheVariants as nodes
 use Rattle.table_model.specs.declared.event.Event.TheVariants as events
+use Rattle.table_model.specs.declared.table_state.TableState.{TableState}
+use Rattle.table_model.specs.declared.table_state.TableState.TheVariants as states
 use Rattle.table_model.specs.declared.line.TextLine.{TextLine}
 use Rattle.step_tables.specs.Messages.{Luck}
 use Rattle.step_tables.specs.Messages as messages
@@ -38,28 +40,39 @@ use Rattle.net_steps.proofs.Moved.{world_of_reached}
 
 -- ---- what the world has of it
 
-declared_stores : (w : AWorld) (table : ℕ) (schema : Schema) (luck : Luck) (o : Option Hosted) → (declared w table schema luck o).stores ≡ w.stores
-declared_stores w table schema luck (Some hosted) = refl
-declared_stores w table schema messages.Done None = refl
-declared_stores w table schema messages.FailedBefore None = refl
-declared_stores w table schema messages.FailedAfter None = refl
+declared_stores : (w : AWorld) (table : ℕ) (schema : Schema) (stage : TableState) (luck : Luck) (o : Option Hosted) → (declared w table schema stage luck o).stores ≡ w.stores
+declared_stores w table schema stage luck (Some hosted) = refl
+declared_stores w table schema stage messages.Done None = refl
+declared_stores w table schema stage messages.FailedBefore None = refl
+declared_stores w table schema stage messages.FailedAfter None = refl
 
-made_schemas : (w : AWorld) (table : ℕ) (schema : Schema) (luck : Luck) → (made_with w table schema luck).schemas ≡ insert_entry nat_cmp w.schemas table schema
-made_schemas w table schema messages.Done = refl
-made_schemas w table schema messages.FailedBefore = refl
-made_schemas w table schema messages.FailedAfter = refl
+made_schemas : (w : AWorld) (table : ℕ) (schema : Schema) (stage : TableState) (luck : Luck) → (made_with w table schema stage luck).schemas ≡ insert_entry nat_cmp w.schemas table schema
+made_schemas w table schema stage messages.Done = refl
+made_schemas w table schema stage messages.FailedBefore = refl
+made_schemas w table schema stage messages.FailedAfter = refl
 
 -- a table has a schema where it is there
-declared_schemas : (w : AWorld) (table : ℕ) (schema : Schema) (luck : Luck) (o : Option Hosted) → is_some (schema_at w table) ≡ is_some o
-    → (declared w table schema luck o).schemas ≡ with_schema table schema w.schemas
-declared_schemas w table schema luck (Some hosted) is =
+declared_schemas : (w : AWorld) (table : ℕ) (schema : Schema) (stage : TableState) (luck : Luck) (o : Option Hosted) → is_some (schema_at w table) ≡ is_some o
+    → (declared w table schema stage luck o).schemas ≡ with_schema table schema w.schemas
+declared_schemas w table schema stage luck (Some hosted) is =
     subst (λ (b : Bool). w.schemas ≡ (if b then w.schemas else insert_entry nat_cmp w.schemas table schema)) (sym is) refl
-declared_schemas w table schema luck None is =
-    subst (λ (b : Bool). (made_with w table schema luck).schemas ≡ (if b then w.schemas else insert_entry nat_cmp w.schemas table schema)) (sym is) (made_schemas w table schema luck)
+declared_schemas w table schema stage luck None is =
+    subst (λ (b : Bool). (made_with w table schema stage luck).schemas ≡ (if b then w.schemas else insert_entry nat_cmp w.schemas table schema)) (sym is) (made_schemas w table schema stage luck)
 
 gates_added : (n : Net) (number : ℕ) (o : Option Gateway) → (gate_declared number o n).gates ≡ added number o n.gates
 gates_added n number None = refl
 gates_added n number (Some gateway) = refl
+
+-- gateways know a table that was declared
+table_known : (n : Net) → IsReached n → (table : ℕ) (schema : Schema) (stage : TableState) (lucks : Lucks) (gs : List (ℕ × Gateway)) (gates : Gates)
+    → HoldsGates n.wire.world.stores (with_schema table schema n.wire.world.schemas) gs gates
+    → (let v : AWorld = declared n.wire.world table schema stage (first_luck lucks.calls) (hosted_at n.wire.world table) in HoldsGates v.stores v.schemas gs gates)
+table_known n r table schema stage lucks gs gates h =
+    let w : AWorld = n.wire.world in
+    let f : IsFair w = reached_fair w (world_of_reached n r) in
+    subst (λ (l : List ℕ). HoldsGates l (declared w table schema stage (first_luck lucks.calls) (hosted_at w table)).schemas gs gates)
+    (sym (declared_stores w table schema stage (first_luck lucks.calls) (hosted_at w table)))
+    (subst (λ (l : List (ℕ × Schema)). HoldsGates w.stores l gs gates) (sym (declared_schemas w table schema stage (first_luck lucks.calls) (hosted_at w table) (f.both table))) h)
 
 -- gateways know the Stores and the tables of the wire behind it
 gates_known : (n : Net) → IsReached n → (event : Event) → kind_of event ≡ kinds.Declare → (lucks : Lucks) (gs : List (ℕ × Gateway)) (gates : Gates)
@@ -67,12 +80,8 @@ gates_known : (n : Net) → IsReached n → (event : Event) → kind_of event �
     → HoldsGates (wire_step n.wire event lucks).wire.world.stores (wire_step n.wire event lucks).wire.world.schemas gs gates
 gates_known n r (events.Store number) is lucks gs gates h = h
 gates_known n r (events.Gate number) is lucks gs gates h = h
-gates_known n r (events.Table table schema) is lucks gs gates h =
-    let w : AWorld = n.wire.world in
-    let f : IsFair w = reached_fair w (world_of_reached n r) in
-    subst (λ (l : List ℕ). HoldsGates l (declared w table schema (first_luck lucks.calls) (hosted_at w table)).schemas gs gates)
-    (sym (declared_stores w table schema (first_luck lucks.calls) (hosted_at w table)))
-    (subst (λ (l : List (ℕ × Schema)). HoldsGates w.stores l gs gates) (sym (declared_schemas w table schema (first_luck lucks.calls) (hosted_at w table) (f.both table))) h)
+gates_known n r (events.Table table schema) is lucks gs gates h = table_known n r table schema states.Live lucks gs gates h
+gates_known n r (events.Draft table schema) is lucks gs gates h = table_known n r table schema states.Draft lucks gs gates h
 gates_known n r (events.Hold (nodes.Gate g)) is lucks gs gates h = absurd cc
 gates_known n r (events.Free (nodes.Gate g)) is lucks gs gates h = absurd cc
 gates_known n r (events.Work (nodes.Gate g)) is lucks gs gates h = absurd cc
@@ -99,6 +108,7 @@ declared_step : (n : Net) (event : Event) → kind_of event ≡ kinds.Declare �
 declared_step n (events.Store number) is lucks = refl
 declared_step n (events.Gate number) is lucks = gate_step n number lucks (gate_at n number)
 declared_step n (events.Table table schema) is lucks = refl
+declared_step n (events.Draft table schema) is lucks = refl
 declared_step n (events.Hold (nodes.Gate g)) is lucks = absurd cc
 declared_step n (events.Free (nodes.Gate g)) is lucks = absurd cc
 declared_step n (events.Work (nodes.Gate g)) is lucks = absurd cc
@@ -112,6 +122,7 @@ declared_fault : (n : Net) (event : Event) → kind_of event ≡ kinds.Declare �
 declared_fault n (events.Store number) is lucks = refl
 declared_fault n (events.Gate number) is lucks = refl
 declared_fault n (events.Table table schema) is lucks = refl
+declared_fault n (events.Draft table schema) is lucks = refl
 declared_fault n (events.Hold (nodes.Gate g)) is lucks = absurd cc
 declared_fault n (events.Free (nodes.Gate g)) is lucks = absurd cc
 declared_fault n (events.Work (nodes.Gate g)) is lucks = absurd cc
@@ -125,6 +136,7 @@ declared_spends : (m : ℕ) (n : Net) (event : Event) → kind_of event ≡ kind
 declared_spends m n (events.Store number) is k = k
 declared_spends m n (events.Gate number) is k = k
 declared_spends m n (events.Table table schema) is k = k
+declared_spends m n (events.Draft table schema) is k = k
 declared_spends m n (events.Hold (nodes.Gate g)) is k = absurd cc
 declared_spends m n (events.Free (nodes.Gate g)) is k = absurd cc
 declared_spends m n (events.Work (nodes.Gate g)) is k = absurd cc

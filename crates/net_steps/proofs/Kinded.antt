@@ -62,6 +62,7 @@ pub carries_on : (n : Net) (event : Event) → kind_of event ≡ kinds.Other →
 carries_on n (events.Store number) e = absurd cc
 carries_on n (events.Gate number) e = absurd cc
 carries_on n (events.Table table schema) e = absurd cc
+carries_on n (events.Draft table schema) e = absurd cc
 carries_on n (events.Client c gate tables) e = absurd cc
 carries_on n (events.Deliver number) e = absurd cc
 carries_on n (events.Link c up) e = absurd cc

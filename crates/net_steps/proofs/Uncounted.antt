@@ -7,19 +7,22 @@ use Rattle.stab_base.specs.declared.node.Node.TheVariants as nodes
 use Rattle.table_model.specs.declared.entry.Entry.{Entry}
 use Rattle.table_model.specs.declared.event.Event.{Event}
 use Rattle.table_model.specs.declared.event.Event.TheVariants as events
+use Rattle.table_model.specs.declared.table_state.TableState.TheVariants as states
 use Rattle.table_model.specs.declared.line.RowPair.{RowPair}
+use Rattle.row_value.specs.declared.schema.Schema.{Schema}
 use Rattle.step_tables.specs.Facts.{Answer, Refusal, Fact, Line, PairLine, EntryLine}
 use Rattle.step_tables.specs.Facts as facts
 use Rattle.step_tables.specs.ClientMoves.{Client, ClientMove, Shape, kept_out, is_cut_off, client_step}
 use Rattle.step_tables.specs.ClientMoves as client
 use Rattle.step_tables.specs.Messages.{Luck, Message, table_of}
 use Rattle.step_tables.specs.Messages as messages
-use Rattle.step_tables.specs.StoreMoves.{StoreMove, StoreTask}
+use Rattle.step_tables.specs.StoreMoves.{StoreMove, StoreTask, SidePut}
 use Rattle.step_tables.specs.StoreMoves as store
 use Rattle.world_tables.specs.World.{World, Packet, Hosted, WorldStep, Lucks, hosted_at, client_at, hosted_by, owner_of, is_down, is_cut, is_resolving, has_store}
 use Rattle.world_tables.specs.World.{refused, unless_down, reads, unless_kept, unless_cut, calls, call_there, call, listed, resolve_all}
 use Rattle.world_tables.specs.World.{take_read, take_at, to_hosted, to_there, carried, delivered, row_read, store_shows, chunk_names, entry_lines, history_lines}
-use Rattle.world_tables.specs.World.{worked, all_worked, crashed, started, linked, step, other_lucks, first_luck}
+use Rattle.world_tables.specs.World.{worked, all_worked, crashed, started, linked, puts_beside, opens, created, dropped, schema_at, step, other_lucks, first_luck}
+use Rattle.world_tables.specs.World.{answered, is_closed, table_of_move, closed_answer, unless_closed}
 use Rattle.name_laws.proofs.Plain.{IsPlainFact, ArePlainFacts}
 use Rattle.wire_tables.specs.Wire.{PartOutbox, Wire, WireStep, start, wire_step}
 use Rattle.wire_tables.specs.Runs.{wire_from}
@@ -66,14 +69,21 @@ kept_counted w (Some refusal) s h = tt
 cut_counted : (w : World) (b : Bool) (s : WorldStep) → AreCounted s → AreCounted (unless_cut w b s)
 cut_counted w b s h = either b (refused w facts.Offline) s tt h
 
+closed_counted : (w : World) (b : Bool) (a : Answer) (s : WorldStep) → AreCounted s → AreCounted (unless_closed w b a s)
+closed_counted w b a s h = either b (answered w a) s tt h
+
 there_counted : (w : World) (c : ℕ) (move : ClientMove) (shape : Shape) (lucks : List Luck) (o : Option Client) → AreCounted (call_there w c move shape lucks o)
 there_counted w c move shape lucks None = tt
 there_counted w c move shape lucks (Some node) =
     let done : WorldStep = calls w c move shape (other_lucks lucks) node in
     let cut : WorldStep = unless_cut w (is_cut w c && is_cut_off c shape node move) done in
     let out : Option Refusal = kept_out (is_resolving w c) move (client_step c shape node move).answer in
-    down_counted w (nodes.Client c) (reads w c (first_luck lucks) (unless_kept w out cut))
-    (reads_counted w c (first_luck lucks) (unless_kept w out cut) (kept_counted w out cut (cut_counted w (is_cut w c && is_cut_off c shape node move) done tt)))
+    let closed : Bool = is_closed node (table_of_move move) in
+    let answer : Answer = closed_answer shape (is_cut w c) node.agenda move in
+    let open_step : WorldStep = unless_closed w closed answer (unless_kept w out cut) in
+    down_counted w (nodes.Client c) (reads w c (first_luck lucks) open_step)
+    (reads_counted w c (first_luck lucks) open_step
+    (closed_counted w closed answer (unless_kept w out cut) (kept_counted w out cut (cut_counted w (is_cut w c && is_cut_off c shape node move) done tt))))
 
 call_counted : (w : World) (c : ℕ) (move : ClientMove) (shape : Shape) (lucks : List Luck) → AreCounted (call w c move shape lucks)
 call_counted w c move shape lucks = there_counted w c move shape lucks (client_at w c)
@@ -161,6 +171,24 @@ linked_counted : (w : World) (c : ℕ) (up : Bool) (o : Option Client) → AreCo
 linked_counted w c up None = tt
 linked_counted w c up (Some node) = down_counted w (nodes.Client c) _ tt
 
+puts_counted : (w : World) (number table : ℕ) (put : SidePut) (lucks : List Luck) → AreCounted (puts_beside w number table put lucks)
+puts_counted w number table put lucks =
+    down_counted w (nodes.Store number) _ (hosted_counted w table (store.Place put) lucks (hosted_by w number table))
+
+opens_counted : (w : World) (c table : ℕ) (shape : Shape) (lucks : List Luck) (o : Option Schema) → AreCounted (opens w c table shape lucks o)
+opens_counted w c table shape lucks None = tt
+opens_counted w c table shape lucks (Some schema) = call_counted w c (client.Alter table (client.Opens schema)) shape lucks
+
+created_counted : (w : World) (table : ℕ) (shape : Shape) (lucks : List Luck) (node : Node) → AreCounted (created w table shape lucks node)
+created_counted w table shape lucks (nodes.Store number) = puts_counted w number table (store.PutState states.Live) lucks
+created_counted w table shape lucks (nodes.Client c) = opens_counted w c table shape lucks (schema_at w table)
+created_counted w table shape lucks (nodes.Gate gate) = tt
+
+dropped_counted : (w : World) (table : ℕ) (shape : Shape) (lucks : List Luck) (node : Node) → AreCounted (dropped w table shape lucks node)
+dropped_counted w table shape lucks (nodes.Store number) = puts_counted w number table (store.PutState states.Dropped) lucks
+dropped_counted w table shape lucks (nodes.Client c) = call_counted w c (client.Alter table client.Closes) shape lucks
+dropped_counted w table shape lucks (nodes.Gate gate) = tt
+
 -- ---- any event
 
 step_counted : (w : World) (event : Event) (lucks : Lucks) → AreCounted (step w event lucks)
@@ -179,6 +207,8 @@ step_counted w (events.ResolveAll c table by) lucks =
     all_counted w c table by lucks.shapes (other_lucks lucks.calls) (call w c (client.ResolveAll table by) lucks.shape lucks.calls)
     (call_counted w c (client.ResolveAll table by) lucks.shape lucks.calls)
 step_counted w (events.Link c up) lucks = linked_counted w c up (client_at w c)
+step_counted w (events.Create node table) lucks = created_counted w table lucks.shape lucks.calls node
+step_counted w (events.Drop node table) lucks = dropped_counted w table lucks.shape lucks.calls node
 step_counted w (events.Deliver packet) lucks = delivered_counted w lucks.shape lucks.calls (slice_get w.packets packet)
 step_counted w (events.StoreShow table row) lucks = shows_counted w table row lucks.calls (hosted_at w table)
 step_counted w (events.History table) lucks = history_counted w table (hosted_at w table)

@@ -36,8 +36,8 @@ pub record IsPlainStep (s : WireStep) : Type 0 where
   pub facts : AllByRecursion (λ (out : PartOutbox). ArePlain out.facts) s.outs
   pub counted : AllByRecursion IsPlainLine s.counted
 
--- The world's wire is behind this step, which told these lines and sent its packets behind those of the net; the rest is
--- that of the net. `v` is the wire that it began from, with a client's link as it may be.
+-- The world's wire is behind this step, which told these lines and sent its packets behind those of the net; the rest
+-- is that of the net. `v` is the wire that it began from, with a client's link as it may be.
 pub record IsToCarry {D : Type 0} (state : D → DiskState) (n : Net) (v : Wire) (s : WireStep) (lines : List TextLine)
     (world : World D) : Type 0 where
   pub held : holds.Holds state s.wire world.wire

@@ -10,6 +10,7 @@ abbrev pub kind_of : Event → Kind
 kind_of (events.Store store) = kinds.Declare
 kind_of (events.Gate gate) = kinds.Declare
 kind_of (events.Table table schema) = kinds.Declare
+kind_of (events.Draft table schema) = kinds.Declare
 kind_of (events.Client client gate tables) = kinds.Join
 kind_of (events.Deliver packet) = kinds.Deliver packet
 kind_of (events.Link client up) = kinds.Link client up

@@ -58,6 +58,7 @@ stores_with other stores = stores
 
 abbrev pub schemas_with : Event → List (ℕ × Schema) → List (ℕ × Schema)
 schemas_with (events.Table table schema) schemas = with_schema table schema schemas
+schemas_with (events.Draft table schema) schemas = with_schema table schema schemas
 schemas_with other schemas = schemas
 
 abbrev pub gates_with : Event → List (ℕ × Gateway) → List (ℕ × Gateway)

@@ -43,7 +43,8 @@ pub(crate) struct Route {
 // What a client that has a gateway sends goes there, and so does what is sent to it.
 fn route_of(devices: &BTreeMap<ClientNo, Device>, from: Node, to: Node) -> Route
     ensures { (n : Net) (p : PartPacket) → HoldsDevices n.devices devices.now → p.from ≡ from → p.to ≡ to
-        → routed n p ≡ record { from = result.from; to = result.to; message = stamped result.token (message_at p.part) } }
+        → routed n p
+        ≡ record { from = result.from; to = result.to; message = stamped result.token (message_at p.part) } }
 {
     if let Node::Client(client) = from {
         return match devices.get(&client) {
@@ -231,8 +232,8 @@ impl<D: Disk + Drop> World<D> {
         Ok(())
     }
 
-    /// The lines of a step of the wire, and what it sent, on their way; a client with its link up that has recovered asks
-    /// for a session behind all of it.
+    /// The lines of a step of the wire, and what it sent, on their way; a client with its link up that has recovered
+    /// asks for a session behind all of it.
     pub(crate) fn carry(&mut self, lines: Lines) -> Result<Lines, WorldFault>
         requires { (n : Net) × (v : Wire) × (s : WireStep) × IsToCarry D.state n v s lines self.old }
         ensures done { (n : Net) (v : Wire) (s : WireStep) → IsToCarry D.state n v s lines self.old

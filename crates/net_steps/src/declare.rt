@@ -31,6 +31,7 @@ impl<D: Disk + Drop> World<D> {
         match event {
             Event::Store { store } => self.gates.add_store(*store),
             Event::Table { table, schema } => self.gates.add_table(*table, schema),
+            Event::Draft { table, schema } => self.gates.add_table(*table, schema),
             Event::Gate { gate } => self.gates.add_gate(*gate),
             _ => Ok(()),
         }

@@ -46,7 +46,8 @@ impl<D: Disk + Drop> World<D> {
         packet: u64,
     ) -> Result<Lines, WorldFault>
         requires here { (n : Net) × IsLinkedIn D.state (P.state depot.old).is_out client (device_of device) n self.old }
-        ensures delivers { (n : Net) → IsLinkedIn D.state (P.state depot.old).is_out client (device_of device) n self.old
+        ensures delivers { (n : Net)
+            → IsLinkedIn D.state (P.state depot.old).is_out client (device_of device) n self.old
             → Delivers D.state D.images n (step_linked n client (device_of device) packet) result
             (P.state depot.new).is_out self.old self.new }
         ensures depot { IsCounted DepotFailed (P.state depot.old).faults (P.state depot.new).faults result }
@@ -93,7 +94,8 @@ impl<D: Disk + Drop> World<D> {
     ) -> Result<Lines, WorldFault>
         requires coming { IsComing D.state (P.state depot.old).is_out number way.from (nodes.Client client) way.part
             self.old }
-        ensures delivers { (x : IsComing D.state (P.state depot.old).is_out number way.from (nodes.Client client) way.part
+        ensures delivers { (x : IsComing D.state (P.state depot.old).is_out number way.from (nodes.Client client)
+            way.part
             self.old) → Delivers D.state D.images x.n
             (λ lucks. to_client x.n client x.one lucks (part_of x.one.message)) result
             (P.state depot.new).is_out self.old self.new }
@@ -196,7 +198,8 @@ impl<D: Disk + Drop> World<D> {
         ensures limit { (n : Net) (m : ℕ) → IsAt D.state (P.state depot.old).is_out (events.Deliver number) n self.old
             → HavePlansBelow D.state m self.old → IsLimited m n (events.Deliver number) result }
         ensures plans { (n : Net) (m : ℕ) → IsAt D.state (P.state depot.old).is_out (events.Deliver number) n self.old
-            → HavePlansBelow D.state m self.old → HavePlansBelow D.state (may_begin n (events.Deliver number) + m) self.new }
+            → HavePlansBelow D.state m self.old
+            → HavePlansBelow D.state (may_begin n (events.Deliver number) + m) self.new }
         ensures left { (n : Net) → IsAt D.state (P.state depot.old).is_out (events.Deliver number) n self.old
             → Leaves D.state n (events.Deliver number) (P.state depot.new).is_out result self.old self.new }
         ensures depot { IsCounted DepotFailed (P.state depot.old).faults (P.state depot.new).faults result }

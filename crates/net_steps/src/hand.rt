@@ -13,7 +13,8 @@ ghost use Rattle.net_steps.specs.Calls.{Comes, Overruns, IsLimited, Leaves};
 ghost use Rattle.net_steps.specs.Steps.{HavePlansBelow, may_begin};
 ghost use Rattle.net_steps.specs.Alone.{Promises};
 ghost use Rattle.net_steps.specs.Carrying.{AreSent, IsOverFault};
-ghost use Rattle.net_steps.specs.Handing.{HasGone, GoesOn, AllGoOn, AreShortSends, all_from, IsToTake, step_at, IsDrawn};
+ghost use Rattle.net_steps.specs.Handing.{HasGone, GoesOn, AllGoOn, AreShortSends, all_from, IsToTake, step_at};
+ghost use Rattle.net_steps.specs.Handing.{IsDrawn};
 ghost use Rattle.wire_steps.specs.Sending.{IsSendFault};
 ghost use Rattle.net_network.specs.Packets.{IsPartAt, IsWayAt, IsWayOf};
 ghost use Rattle.net_network.specs.Short.{IsShort};
@@ -162,7 +163,8 @@ impl<D: Disk + Drop> World<D> {
         ensures lines { (n : Net) (x : IsToTake D.state n gate way message.now self.old) → IfOk result (λ lines.
             map line_of lines ≡ lines_of n (step_at n gate x.starts x.running way.from message.now)) }
         ensures held { (n : Net) (x : IsToTake D.state n gate way message.now self.old)
-            → IfOk result (λ lines. Holds D.state (step_at n gate x.starts x.running way.from message.now).net self.new) }
+            → IfOk result
+            (λ lines. Holds D.state (step_at n gate x.starts x.running way.from message.now).net self.new) }
         ensures over { (n : Net) (x : IsToTake D.state n gate way message.now self.old)
             → IfErr result (IsOverFault (step_at n gate x.starts x.running way.from message.now).net.sent) }
         ensures drawn { (n : Net) (x : IsToTake D.state n gate way message.now self.old)
@@ -183,7 +185,8 @@ impl<D: Disk + Drop> World<D> {
     fn hand_message(&mut self, number: u64, gate: GateNo, way: Way) -> Result<Lines, WorldFault>
         requires up { is_up_at self.old.gates gate ≡ true }
         requires here { way.to ≡ nodes.Gate gate }
-        requires way { (n : Net) → Holds D.state n self.old → IsWayAt n.wire.packets (Some way) (slice_get n.sent number) }
+        requires way { (n : Net) → Holds D.state n self.old
+            → IsWayAt n.wire.packets (Some way) (slice_get n.sent number) }
         requires held { (is_out : ℕ → Bool) × (n : Net) × IsAt D.state is_out (events.Deliver number) n self.old }
         ensures promises { (is_out : ℕ → Bool) (n : Net) → IsAt D.state is_out (events.Deliver number) n self.old
             → Promises D.state D.images n (events.Deliver number) is_out result self.old self.new }
@@ -199,7 +202,8 @@ impl<D: Disk + Drop> World<D> {
     pub(crate) fn hand(&mut self, number: u64, gate: GateNo, way: Way) -> Result<Lines, WorldFault>
         requires up { is_up_at self.old.gates gate ≡ true }
         requires here { way.to ≡ nodes.Gate gate }
-        requires way { (n : Net) → Holds D.state n self.old → IsWayAt n.wire.packets (Some way) (slice_get n.sent number) }
+        requires way { (n : Net) → Holds D.state n self.old
+            → IsWayAt n.wire.packets (Some way) (slice_get n.sent number) }
         requires held { (is_out : ℕ → Bool) × (n : Net) × IsAt D.state is_out (events.Deliver number) n self.old }
         ensures done { (is_out : ℕ → Bool) (n : Net) → IsAt D.state is_out (events.Deliver number) n self.old
             → Comes D.state D.images n (events.Deliver number) is_out result self.old self.new }
@@ -208,7 +212,8 @@ impl<D: Disk + Drop> World<D> {
         ensures limit { (is_out : ℕ → Bool) (n : Net) (m : ℕ) → IsAt D.state is_out (events.Deliver number) n self.old
             → HavePlansBelow D.state m self.old → IsLimited m n (events.Deliver number) result }
         ensures plans { (is_out : ℕ → Bool) (n : Net) (m : ℕ) → IsAt D.state is_out (events.Deliver number) n self.old
-            → HavePlansBelow D.state m self.old → HavePlansBelow D.state (may_begin n (events.Deliver number) + m) self.new }
+            → HavePlansBelow D.state m self.old
+            → HavePlansBelow D.state (may_begin n (events.Deliver number) + m) self.new }
         ensures left { (is_out : ℕ → Bool) (n : Net) → IsAt D.state is_out (events.Deliver number) n self.old
             → Leaves D.state n (events.Deliver number) is_out result self.old self.new }
         ensures apart { IfErr result (λ e. e ≢ DepotFailed) }

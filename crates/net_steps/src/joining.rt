@@ -60,17 +60,27 @@ impl<D: Disk + Drop> World<D> {
         tables: &Tables,
     ) -> Result<Lines, WorldFault>
         requires client { IsClient client }
-        requires held { (n : Net) × IsAt D.state (P.state depot.old).is_out (events.Client client gate tables.now) n self.old }
-        ensures done { (n : Net) → IsAt D.state (P.state depot.old).is_out (events.Client client gate tables.now) n self.old
-            → Comes D.state D.images n (events.Client client gate tables.now) (P.state depot.new).is_out result self.old self.new }
-        ensures over { (n : Net) → IsAt D.state (P.state depot.old).is_out (events.Client client gate tables.now) n self.old
-            → Overruns D.state D.images n (events.Client client gate tables.now) (P.state depot.new).is_out result self.old self.new }
-        ensures limit { (n : Net) (m : ℕ) → IsAt D.state (P.state depot.old).is_out (events.Client client gate tables.now) n self.old
+        requires held { (n : Net)
+            × IsAt D.state (P.state depot.old).is_out (events.Client client gate tables.now) n self.old }
+        ensures done { (n : Net)
+            → IsAt D.state (P.state depot.old).is_out (events.Client client gate tables.now) n self.old
+            → Comes D.state D.images n (events.Client client gate tables.now) (P.state depot.new).is_out result self.old
+            self.new }
+        ensures over { (n : Net)
+            → IsAt D.state (P.state depot.old).is_out (events.Client client gate tables.now) n self.old
+            → Overruns D.state D.images n (events.Client client gate tables.now) (P.state depot.new).is_out result
+            self.old self.new }
+        ensures limit { (n : Net) (m : ℕ)
+            → IsAt D.state (P.state depot.old).is_out (events.Client client gate tables.now) n self.old
             → HavePlansBelow D.state m self.old → IsLimited m n (events.Client client gate tables.now) result }
-        ensures plans { (n : Net) (m : ℕ) → IsAt D.state (P.state depot.old).is_out (events.Client client gate tables.now) n self.old
-            → HavePlansBelow D.state m self.old → HavePlansBelow D.state (may_begin n (events.Client client gate tables.now) + m) self.new }
-        ensures left { (n : Net) → IsAt D.state (P.state depot.old).is_out (events.Client client gate tables.now) n self.old
-            → Leaves D.state n (events.Client client gate tables.now) (P.state depot.new).is_out result self.old self.new }
+        ensures plans { (n : Net) (m : ℕ)
+            → IsAt D.state (P.state depot.old).is_out (events.Client client gate tables.now) n self.old
+            → HavePlansBelow D.state m self.old
+            → HavePlansBelow D.state (may_begin n (events.Client client gate tables.now) + m) self.new }
+        ensures left { (n : Net)
+            → IsAt D.state (P.state depot.old).is_out (events.Client client gate tables.now) n self.old
+            → Leaves D.state n (events.Client client gate tables.now) (P.state depot.new).is_out result self.old
+            self.new }
         ensures depot { IsCounted DepotFailed (P.state depot.old).faults (P.state depot.new).faults result }
     {
         let is_there = self.wire.has_client(client);
@@ -85,8 +95,8 @@ impl<D: Disk + Drop> World<D> {
         Ok(lines)
     }
 
-    /// A client is declared: it is wired to the Stores, or has a gateway, its link down. One that is there already stays
-    /// as it is.
+    /// A client is declared: it is wired to the Stores, or has a gateway, its link down. One that is there already
+    /// stays as it is.
     pub(crate) fn join<P: Depot<Disk = D>>(
         &mut self,
         depot: &mut P,

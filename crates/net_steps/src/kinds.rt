@@ -36,7 +36,8 @@ pub(crate) fn kind_of(event: &Event) -> Kind
     ensures { result ≡ kind_of event.now }
 {
     match event {
-        Event::Store { .. } | Event::Gate { .. } | Event::Table { .. } => Kind::Declare,
+        Event::Store { .. } | Event::Gate { .. } | Event::Table { .. } | Event::Draft { .. } =>
+            Kind::Declare,
         Event::Client { .. } => Kind::Join,
         Event::Deliver { packet } => Kind::Deliver(*packet),
         Event::Link { client, up } => Kind::Link(*client, *up),

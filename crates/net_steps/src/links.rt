@@ -50,7 +50,8 @@ impl<D: Disk + Drop> World<D> {
 
     // The link of a client with a gateway goes up: it asks for a session.
     fn link_up(&mut self, client: ClientNo, device: Device) -> Result<Lines, WorldFault>
-        requires here { (is_out : ℕ → Bool) × (n : Net) × IsLinkedIn D.state is_out client (device_of device) n self.old }
+        requires here { (is_out : ℕ → Bool) × (n : Net)
+            × IsLinkedIn D.state is_out client (device_of device) n self.old }
         ensures done { (is_out : ℕ → Bool) (n : Net) → IsLinkedIn D.state is_out client (device_of device) n self.old
             → Delivers D.state D.images n (λ lucks. relinked n client true (device_of device)) result is_out
             self.old self.new }
@@ -72,7 +73,8 @@ impl<D: Disk + Drop> World<D> {
 
     // And down: it keeps its session.
     fn link_down(&mut self, client: ClientNo, device: Device) -> Result<Lines, WorldFault>
-        requires here { (is_out : ℕ → Bool) × (n : Net) × IsLinkedIn D.state is_out client (device_of device) n self.old }
+        requires here { (is_out : ℕ → Bool) × (n : Net)
+            × IsLinkedIn D.state is_out client (device_of device) n self.old }
         ensures done { (is_out : ℕ → Bool) (n : Net) → IsLinkedIn D.state is_out client (device_of device) n self.old
             → Delivers D.state D.images n (λ lucks. relinked n client false (device_of device)) result is_out
             self.old self.new }
@@ -88,7 +90,8 @@ impl<D: Disk + Drop> World<D> {
     }
 
     fn relink(&mut self, client: ClientNo, up: bool, device: Device) -> Result<Lines, WorldFault>
-        requires here { (is_out : ℕ → Bool) × (n : Net) × IsLinkedIn D.state is_out client (device_of device) n self.old }
+        requires here { (is_out : ℕ → Bool) × (n : Net)
+            × IsLinkedIn D.state is_out client (device_of device) n self.old }
         ensures done { (is_out : ℕ → Bool) (n : Net) → IsLinkedIn D.state is_out client (device_of device) n self.old
             → Delivers D.state D.images n (λ lucks. relinked n client up (device_of device)) result is_out
             self.old self.new }
@@ -137,7 +140,8 @@ impl<D: Disk + Drop> World<D> {
         ensures limit { (n : Net) (m : ℕ) → IsAt D.state (P.state depot.old).is_out (events.Link client up) n self.old
             → HavePlansBelow D.state m self.old → IsLimited m n (events.Link client up) result }
         ensures plans { (n : Net) (m : ℕ) → IsAt D.state (P.state depot.old).is_out (events.Link client up) n self.old
-            → HavePlansBelow D.state m self.old → HavePlansBelow D.state (may_begin n (events.Link client up) + m) self.new }
+            → HavePlansBelow D.state m self.old
+            → HavePlansBelow D.state (may_begin n (events.Link client up) + m) self.new }
         ensures left { (n : Net) → IsAt D.state (P.state depot.old).is_out (events.Link client up) n self.old
             → Leaves D.state n (events.Link client up) (P.state depot.new).is_out result self.old self.new }
         ensures depot { IsCounted DepotFailed (P.state depot.old).faults (P.state depot.new).faults result }
@@ -197,17 +201,27 @@ impl<D: Disk + Drop> World<D> {
         depot: &mut P,
         client: ClientNo,
     ) -> Result<Lines, WorldFault>
-        requires held { (n : Net) × IsAt D.state (P.state depot.old).is_out (events.Start (nodes.Client client)) n self.old }
-        ensures done { (n : Net) → IsAt D.state (P.state depot.old).is_out (events.Start (nodes.Client client)) n self.old
-            → Comes D.state D.images n (events.Start (nodes.Client client)) (P.state depot.new).is_out result self.old self.new }
-        ensures over { (n : Net) → IsAt D.state (P.state depot.old).is_out (events.Start (nodes.Client client)) n self.old
-            → Overruns D.state D.images n (events.Start (nodes.Client client)) (P.state depot.new).is_out result self.old self.new }
-        ensures limit { (n : Net) (m : ℕ) → IsAt D.state (P.state depot.old).is_out (events.Start (nodes.Client client)) n self.old
+        requires held { (n : Net)
+            × IsAt D.state (P.state depot.old).is_out (events.Start (nodes.Client client)) n self.old }
+        ensures done { (n : Net)
+            → IsAt D.state (P.state depot.old).is_out (events.Start (nodes.Client client)) n self.old
+            → Comes D.state D.images n (events.Start (nodes.Client client)) (P.state depot.new).is_out result self.old
+            self.new }
+        ensures over { (n : Net)
+            → IsAt D.state (P.state depot.old).is_out (events.Start (nodes.Client client)) n self.old
+            → Overruns D.state D.images n (events.Start (nodes.Client client)) (P.state depot.new).is_out result
+            self.old self.new }
+        ensures limit { (n : Net) (m : ℕ)
+            → IsAt D.state (P.state depot.old).is_out (events.Start (nodes.Client client)) n self.old
             → HavePlansBelow D.state m self.old → IsLimited m n (events.Start (nodes.Client client)) result }
-        ensures plans { (n : Net) (m : ℕ) → IsAt D.state (P.state depot.old).is_out (events.Start (nodes.Client client)) n self.old
-            → HavePlansBelow D.state m self.old → HavePlansBelow D.state (may_begin n (events.Start (nodes.Client client)) + m) self.new }
-        ensures left { (n : Net) → IsAt D.state (P.state depot.old).is_out (events.Start (nodes.Client client)) n self.old
-            → Leaves D.state n (events.Start (nodes.Client client)) (P.state depot.new).is_out result self.old self.new }
+        ensures plans { (n : Net) (m : ℕ)
+            → IsAt D.state (P.state depot.old).is_out (events.Start (nodes.Client client)) n self.old
+            → HavePlansBelow D.state m self.old
+            → HavePlansBelow D.state (may_begin n (events.Start (nodes.Client client)) + m) self.new }
+        ensures left { (n : Net)
+            → IsAt D.state (P.state depot.old).is_out (events.Start (nodes.Client client)) n self.old
+            → Leaves D.state n (events.Start (nodes.Client client)) (P.state depot.new).is_out result self.old
+            self.new }
         ensures depot { IsCounted DepotFailed (P.state depot.old).faults (P.state depot.new).faults result }
     {
         let node = Node::Client(client);

@@ -41,7 +41,8 @@ fn begins_session(answer: &OperationResponse) -> bool
 impl<D: Disk + Drop> World<D> {
     // It has none any more: where its link is up it asks for another.
     fn end_session(&mut self, client: ClientNo, device: Device) -> Result<Lines, WorldFault>
-        requires here { (is_out : ℕ → Bool) × (n : Net) × IsLinkedIn D.state is_out client (device_of device) n self.old }
+        requires here { (is_out : ℕ → Bool) × (n : Net)
+            × IsLinkedIn D.state is_out client (device_of device) n self.old }
         ensures { (is_out : ℕ → Bool) (n : Net) → IsLinkedIn D.state is_out client (device_of device) n self.old
             → Delivers D.state D.images n (λ lucks. asks_session (with_device client
             (record (device_of device) { token = None }) n) client (device_of device)) result is_out self.old self.new }
@@ -62,7 +63,8 @@ impl<D: Disk + Drop> World<D> {
         device: Device,
         token: u64,
     ) -> Result<Lines, WorldFault>
-        requires here { (is_out : ℕ → Bool) × (n : Net) × IsLinkedIn D.state is_out client (device_of device) n self.old }
+        requires here { (is_out : ℕ → Bool) × (n : Net)
+            × IsLinkedIn D.state is_out client (device_of device) n self.old }
         ensures { (is_out : ℕ → Bool) (n : Net) → IsLinkedIn D.state is_out client (device_of device) n self.old
             → Delivers D.state D.images n (λ lucks. still (with_device client
             (record (device_of device) { token = Some token }) n) facts.Done) result is_out self.old self.new }
@@ -81,7 +83,8 @@ impl<D: Disk + Drop> World<D> {
         device: Device,
         answer: &OperationResponse,
     ) -> Result<Lines, WorldFault>
-        requires here { (is_out : ℕ → Bool) × (n : Net) × IsLinkedIn D.state is_out client (device_of device) n self.old }
+        requires here { (is_out : ℕ → Bool) × (n : Net)
+            × IsLinkedIn D.state is_out client (device_of device) n self.old }
         ensures { (is_out : ℕ → Bool) (n : Net) → IsLinkedIn D.state is_out client (device_of device) n self.old
             → Delivers D.state D.images n (λ lucks. step_begun n client answer.now (device_of device)) result is_out
             self.old self.new }
@@ -98,7 +101,8 @@ impl<D: Disk + Drop> World<D> {
         device: Device,
         answer: &OperationResponse,
     ) -> Result<Lines, WorldFault>
-        requires here { (is_out : ℕ → Bool) × (n : Net) × IsLinkedIn D.state is_out client (device_of device) n self.old }
+        requires here { (is_out : ℕ → Bool) × (n : Net)
+            × IsLinkedIn D.state is_out client (device_of device) n self.old }
         ensures { (is_out : ℕ → Bool) (n : Net) → IsLinkedIn D.state is_out client (device_of device) n self.old
             → Delivers D.state D.images n (λ lucks. answered n client answer.now (device_of device)) result is_out
             self.old self.new }
@@ -116,7 +120,8 @@ impl<D: Disk + Drop> World<D> {
         device: Device,
         answer: &OperationResponse,
     ) -> Result<Lines, WorldFault>
-        requires here { (is_out : ℕ → Bool) × (n : Net) × IsLinkedIn D.state is_out client (device_of device) n self.old }
+        requires here { (is_out : ℕ → Bool) × (n : Net)
+            × IsLinkedIn D.state is_out client (device_of device) n self.old }
         ensures { (is_out : ℕ → Bool) (n : Net) → IsLinkedIn D.state is_out client (device_of device) n self.old
             → Delivers D.state D.images n (λ lucks. if_idle n lucks (agenda_in (client_at n.wire.world client))
             (answered n client answer.now (device_of device))) result is_out self.old self.new }
@@ -134,7 +139,8 @@ impl<D: Disk + Drop> World<D> {
         device: Device,
         answer: &OperationResponse,
     ) -> Result<Lines, WorldFault>
-        requires here { (is_out : ℕ → Bool) × (n : Net) × IsLinkedIn D.state is_out client (device_of device) n self.old }
+        requires here { (is_out : ℕ → Bool) × (n : Net)
+            × IsLinkedIn D.state is_out client (device_of device) n self.old }
         ensures { (is_out : ℕ → Bool) (n : Net) → IsLinkedIn D.state is_out client (device_of device) n self.old
             → Delivers D.state D.images n
             (λ lucks. answer_taken n client answer.now lucks (Some (device_of device))) result is_out

@@ -12,10 +12,8 @@ use Rattle.value_codec.specs.SchemaSpelling.{schema_spelling}
 use Rattle.vault.specs.Limit.{payload_most}
 use Rattle.row_store.specs.Spelling.{IsClient}
 use Rattle.table_model.specs.declared.event.Event.TheVariants as events
+use Rattle.table_model.specs.declared.table_state.TableState.TheVariants as states
 use Rattle.row_store.specs.Spelling.{table_payload}
-use Rattle.field_codec.specs.Forms.{four, eight}
-use Rattle.slot_store.specs.Spelling.{record_payload}
-use Rattle.slot_store.proofs.Again.{four_len}
 use Rattle.step_tables.specs.ClientMoves.{Client}
 use Rattle.step_tables.specs.Messages.{Luck}
 use Rattle.step_tables.specs.Messages as messages
@@ -23,12 +21,11 @@ use Rattle.step_tables.proofs.Lists.{lookup-insert}
 use Rattle.store_host.specs.declared.host.StoreHost.{StoreHost}
 use Rattle.store_host.specs.Holds.{HoldsStore}
 use Rattle.store_host.specs.Holds as stores
-use Rattle.store_host.specs.Steps.{new_table, faults_of}
+use Rattle.store_host.specs.Steps.{faults_of}
 use Rattle.store_host.proofs.Maps.{not_found}
-use Rattle.world_tables.specs.World.{no_lucks, Hosted, schema_at, hosted_at, client_at, owner_of, with_store, with_table, made_with, declared, joined, step}
+use Rattle.world_tables.specs.World.{no_lucks, Hosted, schema_at, hosted_at, client_at, owner_of, with_store, with_table, made_with, new_hosted, declared, joined, step}
 use Rattle.world_tables.specs.World as moves
 use Rattle.world_tables.specs.Faults.{is_failure, fails_new, fails_joined}
-use Rattle.journal_laws.specs.Moves.{opened_record}
 use Rattle.client_node.specs.declared.node.ClientNode.{ClientNode}
 use Rattle.client_node.specs.Node.{IsToOpen}
 use Rattle.journal_host.specs.declared.host.ClientHost.{ClientHost}
@@ -92,54 +89,54 @@ module _ {D : Type 0} (state : D → DiskState) (w : moves.World) (table : ℕ) 
   unknown : schema_at w table ≡ None
   unknown = nothing_at (schema_at w table) (r.numbered.both table ∙ ap (λ (o : Option Hosted). is_some o) none)
 
-  known : (made : Bool) (q : ℕ) → schema_at (with_table w table schema made) q ≡ cond (is_at (nat_cmp table) q) (Some schema) (schema_at w q)
+  known : (made : Bool) (q : ℕ) → schema_at (with_table w table schema states.Live made) q ≡ cond (is_at (nat_cmp table) q) (Some schema) (schema_at w q)
   known made q = lookup-insert nat_cmp nat_cmp_total w.schemas table schema q
 
-  there : (made : Bool) (q : ℕ) → hosted_at (with_table w table schema made) q ≡ cond (is_at (nat_cmp table) q) (Some (new_table made)) (hosted_at w q)
-  there made q = lookup-insert nat_cmp nat_cmp_total w.tables table (new_table made) q
+  there : (made : Bool) (q : ℕ) → hosted_at (with_table w table schema states.Live made) q ≡ cond (is_at (nat_cmp table) q) (Some (new_hosted states.Live made)) (hosted_at w q)
+  there made q = lookup-insert nat_cmp nat_cmp_total w.tables table (new_hosted states.Live made) q
 
-  numbered_with : (made : Bool) → AreNumbered (with_table w table schema made)
+  numbered_with : (made : Bool) → AreNumbered (with_table w table schema states.Live made)
   numbered_with made = record {
     both = λ q. ap (λ (o : Option Schema). is_some o) (known made q) ∙ (go q (is_at (nat_cmp table) q) ∙ sym (ap (λ (o : Option Hosted). is_some o) (there made q)));
     tables = λ q is. near q (is_at (nat_cmp table) q) refl (sym (ap (λ (o : Option Hosted). is_some o) (there made q)) ∙ is);
     clients = r.numbered.clients;
   }
     where
-      go : (q : ℕ) (b : Bool) → is_some (cond b (Some schema) (schema_at w q)) ≡ is_some (cond b (Some (new_table made)) (hosted_at w q))
+      go : (q : ℕ) (b : Bool) → is_some (cond b (Some schema) (schema_at w q)) ≡ is_some (cond b (Some (new_hosted states.Live made)) (hosted_at w q))
       go q true = refl
       go q false = r.numbered.both q
 
-      near : (q : ℕ) (b : Bool) → is_at (nat_cmp table) q ≡ b → is_some (cond b (Some (new_table made)) (hosted_at w q)) ≡ true → (1 ≤ q) × (q ≤ 64)
+      near : (q : ℕ) (b : Bool) → is_at (nat_cmp table) q ≡ b → is_some (cond b (Some (new_hosted states.Live made)) (hosted_at w q)) ≡ true → (1 ≤ q) × (q ≤ 64)
       near q true e is = subst (λ (k : ℕ). (1 ≤ k) × (k ≤ 64)) (at_same table q e) range
       near q false e is = r.numbered.tables q is
 
-  rest_with : (made : Bool) → Rest state (with_table w table schema made) (record old { schemas = schemas })
+  rest_with : (made : Bool) → Rest state (with_table w table schema states.Live made) (record old { schemas = schemas })
   rest_with made = record {
     schemas = λ q. put q ∙ (ap (λ (o : Option Schema). cond (is_at (nat_cmp table) q) (Some schema) o) (r.schemas q) ∙ sym (known made q));
-    clients = clients_stay state w (with_table w table schema made) old.clients r.clients (record { clients = refl; cuts = refl; phases = refl });
+    clients = clients_stay state w (with_table w table schema states.Live made) old.clients r.clients (record { clients = refl; cuts = refl; phases = refl });
     clients_told = r.clients_told;
     held = r.held;
     numbered = numbered_with made;
   }
 
-  pub made_rest : (luck : Luck) → Rest state (made_with w table schema luck) (record old { schemas = schemas })
+  pub made_rest : (luck : Luck) → Rest state (made_with w table schema states.Live luck) (record old { schemas = schemas })
   made_rest messages.Done = rest_with true
   made_rest messages.FailedBefore = rest_with false
   made_rest messages.FailedAfter = rest_with false
 
-  with_there : (made : Bool) (q : ℕ) → is_some (hosted_at (with_table w table schema made) q) ≡ cond (is_at (nat_cmp table) q) true (is_some (hosted_at w q))
+  with_there : (made : Bool) (q : ℕ) → is_some (hosted_at (with_table w table schema states.Live made) q) ≡ cond (is_at (nat_cmp table) q) true (is_some (hosted_at w q))
   with_there made q = ap (λ (o : Option Hosted). is_some o) (there made q) ∙ go (is_at (nat_cmp table) q)
     where
-      go : (b : Bool) → is_some (cond b (Some (new_table made)) (hosted_at w q)) ≡ cond b true (is_some (hosted_at w q))
+      go : (b : Bool) → is_some (cond b (Some (new_hosted states.Live made)) (hosted_at w q)) ≡ cond b true (is_some (hosted_at w q))
       go true = refl
       go false = refl
 
-  pub made_there : (luck : Luck) (q : ℕ) → is_some (hosted_at (made_with w table schema luck) q) ≡ cond (is_at (nat_cmp table) q) true (is_some (hosted_at w q))
+  pub made_there : (luck : Luck) (q : ℕ) → is_some (hosted_at (made_with w table schema states.Live luck) q) ≡ cond (is_at (nat_cmp table) q) true (is_some (hosted_at w q))
   made_there messages.Done q = with_there true q
   made_there messages.FailedBefore q = with_there false q
   made_there messages.FailedAfter q = with_there false q
 
-  pub made_clients : (luck : Luck) (c : ℕ) → is_some (client_at (made_with w table schema luck) c) ≡ is_some (client_at w c)
+  pub made_clients : (luck : Luck) (c : ℕ) → is_some (client_at (made_with w table schema states.Live luck) c) ≡ is_some (client_at w c)
   made_clients messages.Done c = refl
   made_clients messages.FailedBefore c = refl
   made_clients messages.FailedAfter c = refl
@@ -214,7 +211,7 @@ module _ {D : Type 0} (state : D → DiskState) (images : D → ℕ → List ℕ
   pub made_step : (old : World D) (schemas : tree.BTreeMap ℕ Schema) (store : StoreHost D) → Holds state w old → AreOut is_out w → hosted_at w table ≡ None → (1 ≤ table) × (table ≤ 64)
       → ((q : ℕ) → tree.get nat_cmp schemas q ≡ cond (is_at (nat_cmp table) q) (Some schema) (tree.get nat_cmp old.schemas q))
       → ((k : ℕ) → out k ≡ with_three (first_disk table) is_out k)
-      → (luck : Luck) → HoldsStore state (made_with w table schema luck) store → IsCounted state (is_failure luck) old.store.tables store.tables → store.outs ≡ old.store.outs
+      → (luck : Luck) → HoldsStore state (made_with w table schema states.Live luck) store → IsCounted state (is_failure luck) old.store.tables store.tables → store.outs ≡ old.store.outs
       → Stays state images w (events.Table table schema) old (record old { schemas = schemas; store = store })
       → IsStep state images w (events.Table table schema) it out old (record old { schemas = schemas; store = store })
   made_step old schemas store h outs none one put u luck held counted told stay = record {
@@ -222,11 +219,11 @@ module _ {D : Type 0} (state : D → DiskState) (images : D → ℕ → List ℕ
     rows = stay (with_calls (luck ∷ []));
     lines_are = only.lines_are;
     outs_are = no_outs_told (owner_of (step w (events.Table table schema) (with_calls (luck ∷ []))).world) it.outs only.none;
-    held = subst (λ (o : Option Hosted). Holds state (declared w table schema luck o) new) (sym none) behind;
-    rose = λ t. (tables_counted state (made_with w table schema luck) old new (is_failure luck) behind counted refl).rose (sym fails ∙ t);
-    same = λ f. (tables_counted state (made_with w table schema luck) old new (is_failure luck) behind counted refl).same (sym fails ∙ f);
-    out = subst (λ (o : Option Hosted). AreOut out (declared w table schema luck o)) (sym none)
-        (more_out w (made_with w table schema luck) table is_out out one.0 one.1 outs u (made_there state w table schema old (rest_of state w old h) none schemas put one luck)
+    held = subst (λ (o : Option Hosted). Holds state (declared w table schema states.Live luck o) new) (sym none) behind;
+    rose = λ t. (tables_counted state (made_with w table schema states.Live luck) old new (is_failure luck) behind counted refl).rose (sym fails ∙ t);
+    same = λ f. (tables_counted state (made_with w table schema states.Live luck) old new (is_failure luck) behind counted refl).same (sym fails ∙ f);
+    out = subst (λ (o : Option Hosted). AreOut out (declared w table schema states.Live luck o)) (sym none)
+        (more_out w (made_with w table schema states.Live luck) table is_out out one.0 one.1 outs u (made_there state w table schema old (rest_of state w old h) none schemas put one luck)
         (made_clients state w table schema old (rest_of state w old h) none schemas put one luck));
   }
     where
@@ -236,11 +233,11 @@ module _ {D : Type 0} (state : D → DiskState) (images : D → ℕ → List ℕ
       fails : fails_new (hosted_at w table) (luck ∷ []) ≡ is_failure luck
       fails = ap (λ (o : Option Hosted). fails_new o (luck ∷ [])) none
 
-      again : Rest state (made_with w table schema luck) (record old { schemas = schemas }) → Rest state (made_with w table schema luck) new
+      again : Rest state (made_with w table schema states.Live luck) (record old { schemas = schemas }) → Rest state (made_with w table schema states.Live luck) new
       again x = record { schemas = x.schemas; clients = x.clients; clients_told = x.clients_told; held = x.held; numbered = x.numbered }
 
-      behind : Holds state (made_with w table schema luck) new
-      behind = whole state (made_with w table schema luck) new (again (made_rest state w table schema old (rest_of state w old h) none schemas put one luck)) held
+      behind : Holds state (made_with w table schema states.Live luck) new
+      behind = whole state (made_with w table schema states.Live luck) new (again (made_rest state w table schema old (rest_of state w old h) none schemas put one luck)) held
           (told ∙ h.store_told)
 
   stays_there : (old : World D) (hosted : Hosted) → Holds state w old → AreOut is_out w → hosted_at w table ≡ Some hosted → Stays state images w (events.Table table schema) old old
@@ -250,8 +247,8 @@ module _ {D : Type 0} (state : D → DiskState) (images : D → ℕ → List ℕ
     rows = stay no_lucks;
     lines_are = only.lines_are;
     outs_are = no_outs_told (owner_of (step w (events.Table table schema) no_lucks).world) it.outs only.none;
-    held = subst (λ (o : Option Hosted). Holds state (declared w table schema messages.Done o) old) (sym at) h;
-    out = subst (λ (o : Option Hosted). AreOut is_out (declared w table schema messages.Done o)) (sym at) outs;
+    held = subst (λ (o : Option Hosted). Holds state (declared w table schema states.Live messages.Done o) old) (sym at) h;
+    out = subst (λ (o : Option Hosted). AreOut is_out (declared w table schema states.Live messages.Done o)) (sym at) outs;
     rose = λ t. let no : false ≡ true = sym (ap (λ (o : Option Hosted). fails_new o []) at) ∙ t in absurd cc;
     same = λ f. refl;
   }
@@ -263,7 +260,7 @@ module _ {D : Type 0} (state : D → DiskState) (images : D → ℕ → List ℕ
   pub made_ok : (old : World D) (schemas : tree.BTreeMap ℕ Schema) (store : StoreHost D) → Holds state w old → AreOut is_out w → hosted_at w table ≡ None → (1 ≤ table) × (table ≤ 64)
       → ((q : ℕ) → tree.get nat_cmp schemas q ≡ cond (is_at (nat_cmp table) q) (Some schema) (tree.get nat_cmp old.schemas q))
       → ((k : ℕ) → out k ≡ with_three (first_disk table) is_out k)
-      → (luck : Luck) × HoldsStore state (made_with w table schema luck) store × IsCounted state (is_failure luck) old.store.tables store.tables → store.outs ≡ old.store.outs
+      → (luck : Luck) × HoldsStore state (made_with w table schema states.Live luck) store × IsCounted state (is_failure luck) old.store.tables store.tables → store.outs ≡ old.store.outs
       → Stays state images w (events.Table table schema) old (record old { schemas = schemas; store = store })
       → IsStep state images w (events.Table table schema) it out old (record old { schemas = schemas; store = store })
   made_ok old schemas store h outs none one put u k told stay = made_step old schemas store h outs none one put u k.0 k.1 k.2 told stay
@@ -276,25 +273,16 @@ pub not_out : {D : Type 0} (state : D → DiskState) (w : moves.World) (table : 
 not_out state w table world h is_out outs none one most k small = outs.tables table k one most small ∙ ap (λ (o : Option Hosted). is_some o) (not_there state w table world h none)
 
 -- a table's payload is 2 bytes more than its schema's spelling
-pub payload_short : (schema : Schema) → length (schema_spelling schema) + 14 ≤ payload_most → length (table_payload schema 2) ≤ payload_most
+pub payload_short : (schema : Schema) → length (schema_spelling schema) + 128 ≤ payload_most → length (table_payload schema 2) ≤ payload_most
 payload_short schema short = omega (arith, short, length-append (schema_spelling schema) (2 ∷ []))
 
 -- ---- a client more
-
-eight_len : (n : ℕ) → length (eight n) ≡ 8
-unfolding eight
-eight_len n = refl
-
--- and its record 14
-record_short : (table : ℕ) (schema : Schema) → length (schema_spelling schema) + 14 ≤ payload_most → length (record_payload (opened_record table schema)) ≤ payload_most
-record_short table schema short =
-    omega (arith, short, four_len table, eight_len 0, length-append (four table) (1 ∷ (schema_spelling schema ++ eight 0)), length-append (schema_spelling schema) (eight 0))
 
 pub to_open : (table : ℕ) (schema : Schema) → IsMade table schema → IsToOpen (table, schema)
 to_open table schema m = record {
   numbered = record { least = m.least; most = m.most };
   spelled = m.spelled;
-  short = record_short table schema m.short;
+  short = m.short;
 }
 
 module _ {D : Type 0} (state : D → DiskState) (w : moves.World) (world : World D) (h : Holds state w world) where

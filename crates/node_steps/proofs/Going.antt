@@ -183,9 +183,9 @@ start_goes : (w : World) (table : ℕ) → Goes w (start_hosted w table (hosted_
 start_goes w table = go (hosted_at w table) refl
   where
     made : (hosted : Hosted) (b : Bool) → hosted_at w table ≡ Some hosted
-        → Goes w (if b then move_table table store.Start w else after_table w table (record hosted { made = true }) (declared_late (owner_of w table) table))
+        → Goes w (if b then move_table table store.Start w else after_table w table (record hosted { made = true }) (declared_late (owner_of w table) table hosted.store.disk.state))
     made hosted true at = table_goes w table store.Start
-    made hosted false at = after_goes w table hosted (record hosted { made = true }) (declared_late (owner_of w table) table) at
+    made hosted false at = after_goes w table hosted (record hosted { made = true }) (declared_late (owner_of w table) table hosted.store.disk.state) at
 
     go : (o : Option Hosted) → hosted_at w table ≡ o → Goes w (start_hosted w table o)
     go None at = still_goes w

@@ -11,7 +11,7 @@ use Rattle.step_tables.specs.Facts.{PairLine}
 use Rattle.step_tables.specs.Facts as facts
 use Rattle.step_tables.specs.Messages.{Luck, Message}
 use Rattle.step_tables.specs.Messages as messages
-use Rattle.world_tables.specs.World.{World, WorldStep, Moved, client_at, is_down, is_cut, has_node, still, and_then, failing, answering, answered, refused, unless_down, reads, unless_kept, unless_cut, is_resolving}
+use Rattle.world_tables.specs.World.{World, WorldStep, Moved, client_at, is_down, is_cut, has_node, still, and_then, failing, answering, answered, refused, unless_down, reads, unless_kept, unless_cut, unless_closed, is_closed, table_of_move, closed_answer, is_resolving}
 use Rattle.world_tables.specs.World.{move_client, move_there, client_tasks, client_until_idle, client_follows, client_follows_from, gets_tasks, client_writes, client_falls, client_crashes, client_starts}
 use Rattle.world_tables.specs.World.{starts_by, listed, first_luck, other_lucks, crash_luck, next_write, calls, call, call_there, to_there, worked, all_worked, crashed, started, linked, with_link}
 use Rattle.world_tables.specs.World.{Lucks, client_pairs, resolve_all, resolve_each, step}
@@ -82,6 +82,10 @@ kept_keeps : (w : World) (o : Option facts.Refusal) (s : WorldStep) → Keeps w 
 kept_keeps w (Some r) s k = answered_keeps w (facts.Refuses r)
 kept_keeps w None s k = k
 
+closed_keeps : (w : World) (closed : Bool) (a : facts.Answer) (s : WorldStep) → Keeps w s → Keeps w (unless_closed w closed a s)
+closed_keeps w true a s k = answered_keeps w a
+closed_keeps w false a s k = k
+
 pub falls_keeps : (w : World) (c : ℕ) → Keeps w (answering facts.Done (failing (client_falls c w)))
 falls_keeps w c = answering_keeps w facts.Done (failing (client_falls c w)) (failing_keeps w (client_falls c w) (move_keeps w c (Crash messages.FailedBefore) no_shape))
 
@@ -95,10 +99,14 @@ call_at_keeps w c move shape lucks None = answered_keeps w (facts.Refuses facts.
 call_at_keeps w c move shape lucks (Some node) =
     let cut : Bool = is_cut w c && is_cut_off c shape node move in
     let kept : Option facts.Refusal = kept_out (is_resolving w c) move (client_step c shape node move).answer in
+    let closed : Bool = is_closed node (table_of_move move) in
+    let says : facts.Answer = closed_answer shape (is_cut w c) node.agenda move in
     let s : WorldStep = calls w c move shape (other_lucks lucks) node in
-    unless_keeps w c (reads w c (first_luck lucks) (unless_kept w kept (unless_cut w cut s)))
-    (reads_keeps w c (first_luck lucks) (unless_kept w kept (unless_cut w cut s))
-    (kept_keeps w kept (unless_cut w cut s) (cut_keeps w cut s (calls_keeps w c move shape (other_lucks lucks) node))))
+    let open_step : WorldStep = unless_kept w kept (unless_cut w cut s) in
+    unless_keeps w c (reads w c (first_luck lucks) (unless_closed w closed says open_step))
+    (reads_keeps w c (first_luck lucks) (unless_closed w closed says open_step)
+    (closed_keeps w closed says open_step
+    (kept_keeps w kept (unless_cut w cut s) (cut_keeps w cut s (calls_keeps w c move shape (other_lucks lucks) node)))))
 
 pub call_keeps : (w : World) (c : ℕ) (move : ClientMove) (shape : Shape) (lucks : List Luck) → Keeps w (call w c move shape lucks)
 call_keeps w c move shape lucks = call_at_keeps w c move shape lucks (client_at w c)

@@ -40,7 +40,6 @@ use Rattle.node_steps.specs.Numbers.{AreNumbered}
 use Rattle.node_steps.proofs.Closing.{AreThree, AreTablesClosing, AreClientsClosing, of_table, of_client, tables_apart, clients_apart, closing_starts, closing_ends, none_out, stays_told, all_below, all_above}
 use Rattle.node_steps.proofs.Sums.{sum_same}
 use Rattle.node_steps.specs.Rows.{IsNear, HasRowsNear, IsRowsBack, AreRowsBack}
-use Rattle.node_steps.proofs.Rows.{only_items}
 
 -- ---- disks that came back
 
@@ -79,8 +78,8 @@ module _ {D : Type 0} (state : D → DiskState) (images : D → ℕ → List ℕ
 
   rows_near : (table : ℕ) (hosted : Hosted) → hosted_at w table ≡ Some hosted → (schema : Schema) (held : TableData) → HasRows schema held hosted.store.disk → HasRowsNear schema hosted.history held
   rows_near table hosted at schema held h = record {
-    items = hosted.store.disk.items;
-    rows = only_items schema held hosted.store.disk h;
+    disk = hosted.store.disk;
+    rows = h;
     near = items_near table hosted at;
   }
 

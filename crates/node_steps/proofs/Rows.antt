@@ -19,7 +19,7 @@ use Rattle.step_tables.specs.Facts as facts
 use Rattle.step_tables.specs.Messages.{Luck}
 use Rattle.step_tables.specs.StoreMoves.{StoreDisk, TableStore}
 use Rattle.device_laws.specs.Stands.{HasRows}
-use Rattle.world_tables.specs.Passed.{after_tasks, items_behind, first_part, started_at}
+use Rattle.world_tables.specs.Passed.{after_tasks, first_part, started_at}
 use Rattle.world_tables.specs.Turns.{world_from}
 use Rattle.world_tables.specs.World.{Lucks, Hosted, Moved, WorldStep, schema_at, hosted_at, tasks_in, start, step, owner_of, tables_of, store_starts}
 use Rattle.world_tables.specs.World as moves
@@ -37,15 +37,11 @@ use Rattle.node_steps.specs.declared.world.World.{World}
 use Rattle.node_steps.specs.Calls.{IsDone, Comes, HasTold}
 use Rattle.node_steps.specs.Holds.{Holds}
 use Rattle.node_steps.specs.Outs.{IsAnswered}
-use Rattle.node_steps.specs.Rows.{disk_with, HasRowsBetween, RowsStay, HasSome, HasSomeAt, AreLeftOver, ComesLeft}
+use Rattle.node_steps.specs.Rows.{HasRowsBetween, RowsStay, HasSome, HasSomeAt, AreLeftOver, ComesLeft}
 use Rattle.fair_laws.specs.Reached.{IsReached}
 
 some_same : {X : Type 0} (a b : X) → Some a ≡ Some b → a ≡ b
 some_same a b e = cc
-
--- rows speak of a disk's items alone
-pub only_items : (schema : Schema) (held : TableData) (disk : StoreDisk) → HasRows schema held disk → HasRows schema held (disk_with disk.items)
-only_items schema held disk h = record { table = h.table; numbered = h.numbered; made = h.made; rows = h.rows }
 
 -- ---- tables behind a call of the world
 
@@ -133,15 +129,15 @@ module _ {D : Type 0} (state : D → DiskState) (images : D → ℕ → List ℕ
     module _ (table : ℕ) (before after : Hosted) (at : hosted_at w table ≡ Some before) (there : hosted_at (step w event lucks).world table ≡ Some after) (schema : Schema) (held : TableData) where
       then_between : HasSome before schema held → HasRowsBetween schema before.history after.history held
       then_between x = record {
-        items = items_behind before x.0;
-        rows = only_items schema held (after_tasks x.0 before.store.disk (tasks_in before.store.agenda)) x.1;
+        disk = after_tasks x.0 before.store.disk (tasks_in before.store.agenda);
+        rows = x.1;
         between = rows_stay_before r.run event lucks table x.0 before after (table_at table before at) (behind_at table after there);
       }
 
       first_between : HasSomeAt (first_part w event lucks) table schema held → HasRowsBetween schema before.history after.history held
       first_between x = record {
-        items = items_behind x.hosted x.some.0;
-        rows = only_items schema held (after_tasks x.some.0 x.hosted.store.disk (tasks_in x.hosted.store.agenda)) x.some.1;
+        disk = after_tasks x.some.0 x.hosted.store.disk (tasks_in x.hosted.store.agenda);
+        rows = x.some.1;
         between = rows_stay_between r.run event lucks table x.some.0 before x.hosted after (table_at table before at) (first_at table x.hosted x.at) (behind_at table after there);
       }
 

@@ -25,15 +25,11 @@ use Rattle.node_steps.specs.Calls.{IsDone}
 
 -- ---- rows in a history
 
--- a disk with these items
-abbrev pub disk_with : List Stored → StoreDisk
-disk_with items = record { items = items; pending = None; left = [] }
-
--- These are the rows of items that go on from one history, and are a front of another, or that with one more.
+-- These are the rows of a disk whose items go on from one history, and are a front of another, or that with one more.
 pub record HasRowsBetween (schema : Schema) (before after : List Entry) (held : TableData) : Type 0 where
-  pub items : List Stored
-  pub rows : HasRows schema held (disk_with items)
-  pub between : IsBetween before after items
+  pub disk : StoreDisk
+  pub rows : HasRows schema held disk
+  pub between : IsBetween before after disk.items
 
 -- Of each table that was declared before, and made: at every moment since the old world, whatever a crash leaves of the
 -- disk of its rows are rows between the history that it had and the one that it has.
@@ -82,11 +78,11 @@ abbrev pub IsNear : List Entry → List Stored → Type 0
 IsNear history items =
     (entries_of items ≡ history) ⊎ ((entry : Entry) × (entries_of items ≡ history ++ entry ∷ []))
 
--- the rows of such items
+-- the rows of a disk with such items
 pub record HasRowsNear (schema : Schema) (history : List Entry) (held : TableData) : Type 0 where
-  pub items : List Stored
-  pub rows : HasRows schema held (disk_with items)
-  pub near : IsNear history items
+  pub disk : StoreDisk
+  pub rows : HasRows schema held disk
+  pub near : IsNear history disk.items
 
 -- The disk of a table's rows came back last under its number. Whatever a crash may leave of it are the rows of the
 -- table's history, or of that with the update at work.

@@ -133,8 +133,8 @@ impl<D: Disk + Drop> World<D> {
         self.end(found)
     }
 
-    /// A client tells rows of a table as torn, and asks for rows whole, in these orders; where it asks for none, for the
-    /// next change. It does the work that follows.
+    /// A client tells rows of a table as torn, and asks for rows whole, in these orders; where it asks for none, for
+    /// the next change. It does the work that follows.
     ///
     /// `Limit` where the client has made its last write or has begun its last plan; it leaves the nodes as they were.
     /// What want of memory leaves of them isn't said.

@@ -4,6 +4,7 @@ ghost use Rattle.std.specs.Prelude.{false};
 ghost use Rattle.std.specs.Ordering.{nat_cmp};
 ghost use Rattle.std.specs.BTreeMap as tree;
 ghost use Rattle.stab_base.specs.declared.node.Node.TheVariants as nodes;
+ghost use Rattle.table_model.specs.declared.table_state.TableState.TheVariants as states;
 ghost use Rattle.step_tables.specs.Facts as moves;
 ghost use Rattle.step_tables.specs.Messages.{Luck, table_of};
 ghost use Rattle.step_tables.specs.Store.{current_of};
@@ -35,7 +36,7 @@ use stab_base::{NUMBER_MAX, Node, StoreNo};
 use step_tables::Message;
 use store_host::StoreHost;
 use store_node::{NodeFault, table_of as table_in};
-use table_model::{Answer, Refusal};
+use table_model::{Answer, Refusal, TableState};
 
 /// Does the next write: what it is called, or that a device failed.
 pub(crate) fn work_once<D: Disk + Drop>(
@@ -154,7 +155,7 @@ pub(crate) fn start<D: Disk + Drop>(
     }
 }
 
-/// Adds a table on its disks. One of whose disks one fails is there, and its owner is down.
+/// Adds a live table on its disks. One of whose disks one fails is there, and its owner is down.
 pub(crate) fn add<D: Disk + Drop>(
     stores: &mut StoreHost<D>,
     table: TableNo,
@@ -166,7 +167,7 @@ pub(crate) fn add<D: Disk + Drop>(
     requires made { IsMade table schema }
     requires sound { faults_of D.state disks.0 disks.1 disks.2 ≡ 0 }
     ensures added { (w : AWorld) → HoldsStore D.state w stores.old → OnOk result ((luck : Luck)
-        × HoldsStore D.state (made_with w table schema luck) stores.new
+        × HoldsStore D.state (made_with w table schema states.Live luck) stores.new
         × IsCounted D.state (is_failure luck) stores.old.tables stores.new.tables) }
     ensures rows { (w : AWorld) → HoldsStore D.state w stores.old → OnOk result
         (AreStill D.state D.images w stores.old.tables stores.new.tables) }
@@ -174,7 +175,14 @@ pub(crate) fn add<D: Disk + Drop>(
     ensures memory { IfErr result (λ e. e ≡ Memory) }
 {
     let (chunk_disk, row_disk, log_disk) = disks;
-    match stores.add(table, schema, chunk_disk, row_disk, log_disk) {
+    match stores.add(
+        table,
+        schema,
+        TableState::Live,
+        chunk_disk,
+        row_disk,
+        log_disk,
+    ) {
         Ok(()) => Ok(()),
         Err(NodeFault::Disk) => Ok(()),
         Err(_) => Err(WorldFault::Memory),

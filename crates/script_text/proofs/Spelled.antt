@@ -285,10 +285,13 @@ module _ (names : Names) where
   spelled ws (events.Store store) h = store-right ws store h
   spelled ws (events.Gate gate) h = gate-right ws gate h
   spelled ws (events.Table table schema) h = table-right ws table schema h
+  spelled ws (events.Draft table schema) h = absurd h
   spelled ws (events.Client client gate tables) h = client-right ws client gate tables h
   spelled ws (events.Write client table row content) h = write-right ws client table row content h
   spelled ws (events.Edit client table row edit) h = edit-right ws client table row edit h
   spelled ws (events.Link client up) h = link-right ws client up h
+  spelled ws (events.Create node table) h = absurd h
+  spelled ws (events.Drop node table) h = absurd h
   spelled ws (events.Show client table row) h = show-right ws client table row h
   spelled ws (events.Sum client table row) h = sum-right ws client table row h
   spelled ws (events.Sync client table) h = sync-right ws client table h

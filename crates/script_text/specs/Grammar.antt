@@ -53,7 +53,8 @@ use Rattle.script_text.specs.Places.{value_behind, with_value, number_at, party_
 use Rattle.script_text.specs.Places.{store_number, table_number, direction_at, column_at, place_at}
 use Rattle.script_text.specs.Places.{next_change, with_change, way_at, rule_at}
 use Rattle.script_text.specs.Places.{client_number, tables_passed, parts_at}
-pub use Rattle.script_text.specs.Names.{Names, no_names, with_event, has_store, has_gate, has_table, has_name, has_client}
+pub use Rattle.script_text.specs.Names.{Names, no_names, with_event, has_store, has_gate, has_table, has_name}
+pub use Rattle.script_text.specs.Names.{has_client}
 pub use Rattle.script_text.specs.Names.{has_no_store, columns_of, column_number}
 
 -- a line that begins with `#`, and a line without a word
@@ -345,14 +346,18 @@ SpellsCrash names words node calls pick =
     (words ≡ codes "crash" ∷ node_word node ∷ decimal calls ∷ decimal pick ∷ []) × IsNode names node
     × (calls ≤ 4) × (pick < 2 ^ 64)
 
+-- no line spells that a table is drafted, made or dropped yet
 abbrev pub SpelledBy : Names → List (List ℕ) → Event → Type 0
 SpelledBy names words (events.Store store) = SpellsStore names words store
 SpelledBy names words (events.Gate gate) = SpellsGate names words gate
 SpelledBy names words (events.Table table schema) = SpellsTable names words table schema
+SpelledBy names words (events.Draft table schema) = ⊥
 SpelledBy names words (events.Client client gate tables) = SpellsClient names words client gate tables
 SpelledBy names words (events.Write client table row content) = SpellsWrite names words client table row content
 SpelledBy names words (events.Edit client table row edit) = SpellsEdited names words client table row edit
 SpelledBy names words (events.Link client up) = SpellsLink names words client up
+SpelledBy names words (events.Create node table) = ⊥
+SpelledBy names words (events.Drop node table) = ⊥
 SpelledBy names words (events.Show client table row) = SpellsShow names words client table row
 SpelledBy names words (events.Sum client table row) = SpellsSum names words client table row
 SpelledBy names words (events.Sync client table) = SpellsSync names words client table

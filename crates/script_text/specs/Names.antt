@@ -43,10 +43,17 @@ with_event n (events.Table table schema) =
       tables = insert_entry nat_cmp n.tables table schema;
       names = insert_key (slice_cmp nat_cmp) n.names schema.name;
     }
+with_event n (events.Draft table schema) =
+    record n {
+      tables = insert_entry nat_cmp n.tables table schema;
+      names = insert_key (slice_cmp nat_cmp) n.names schema.name;
+    }
 with_event n (events.Client client gate tables) = record n { clients = insert_key nat_cmp n.clients client }
 with_event n (events.Write client table row content) = record n { started = true }
 with_event n (events.Edit client table row edit) = record n { started = true }
 with_event n (events.Link client up) = record n { started = true }
+with_event n (events.Create node table) = record n { started = true }
+with_event n (events.Drop node table) = record n { started = true }
 with_event n (events.Show client table row) = record n { started = true }
 with_event n (events.Sum client table row) = record n { started = true }
 with_event n (events.Sync client table) = record n { started = true }

@@ -35,7 +35,8 @@ use Rattle.script_text.specs.Verbs.{verb_of, is_unbuilt}
 use Rattle.script_text.specs.Names.{Names, has_no_store, columns_of}
 use Rattle.std.specs.Borrow.{Bor}
 use Rattle.script_words.specs.Words.{texts, words_of, is_comment}
-use Rattle.script_text.specs.Places.{◌>>=◌, client_at, table_at, new_store_at, new_gate_at, new_table_at, new_client_at, gate_at}
+use Rattle.script_text.specs.Places.{◌>>=◌, client_at, table_at, new_store_at, new_gate_at, new_table_at}
+use Rattle.script_text.specs.Places.{new_client_at, gate_at}
 use Rattle.script_text.specs.Places.{tables_at, new_name_at, scheme_at, chunk_at, new_column_at, with_column, row_at}
 use Rattle.script_text.specs.Places.{Values, value_behind, with_value, number_at, party_at, calls_at}
 use Rattle.script_text.specs.Places.{direction_at, column_at, place_at, next_change, with_change, way_at, rule_at}

@@ -171,7 +171,9 @@ impl Declared {
                 let _added = self.gates.insert(*gate)?;
                 Ok(())
             }
-            Event::Table { table, schema } => self.add_table(*table, schema),
+            Event::Table { table, schema } | Event::Draft { table, schema } => {
+                self.add_table(*table, schema)
+            }
             Event::Client { client, .. } => {
                 let _added = self.clients.insert(*client)?;
                 Ok(())
@@ -179,6 +181,8 @@ impl Declared {
             Event::Write { .. }
             | Event::Edit { .. }
             | Event::Link { .. }
+            | Event::Create { .. }
+            | Event::Drop { .. }
             | Event::Show { .. }
             | Event::Sum { .. }
             | Event::Sync { .. }

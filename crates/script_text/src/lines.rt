@@ -2,7 +2,8 @@ ghost use Rattle.std.specs.Prelude.{◌≡◌};
 ghost use Rattle.script_words.specs.Words.{texts};
 ghost use Rattle.script_text.specs.Places.{tables_at};
 ghost use Rattle.script_text.specs.Reading.{Reads, Makes, Tells, placed, made_table, made_client, store_in, gate_in};
-ghost use Rattle.script_text.specs.Reading.{table_in, client_in, write_in, client_row_in, show_in, sum_in, client_table_in};
+ghost use Rattle.script_text.specs.Reading.{table_in, client_in, write_in, client_row_in, show_in, sum_in};
+ghost use Rattle.script_text.specs.Reading.{client_table_in};
 ghost use Rattle.script_text.specs.Reading.{sync_in, pull_in, begin_cr_in, conflicts_in, end_cr_in};
 ghost use Rattle.script_text.specs.Reading.{deliver_in, store_show_in, history_in, chunks_in, built_in, event_in};
 

@@ -17,6 +17,7 @@ spelled_early : (names : Names) (words : List (List ℕ)) (event : Event) → Sp
 spelled_early names words (events.Store store) s is = s.2
 spelled_early names words (events.Gate gate) s is = s.2
 spelled_early names words (events.Table table schema) s is = s.5
+spelled_early names words (events.Draft table schema) s is = absurd s
 spelled_early names words (events.Client client gate tables) s is = s.5
 spelled_early names words other s is = absurd cc
 
@@ -28,6 +29,7 @@ pub still_early : (names : Names) (event : Event) → (with_event names event).s
 still_early names (events.Store store) is = (is, refl)
 still_early names (events.Gate gate) is = (is, refl)
 still_early names (events.Table table schema) is = (is, refl)
+still_early names (events.Draft table schema) is = (is, refl)
 still_early names (events.Client client gate tables) is = (is, refl)
 still_early names other is = absurd cc
 

@@ -85,7 +85,7 @@ module _ (schema : Schema) (named : is_name schema.name ≡ true) (chunk : IsChu
   }
 
   -- a name, 32 columns and some numbers
-  payload_short : length (schema_spelling schema) + 14 ≤ payload_most
+  payload_short : length (schema_spelling schema) + 128 ≤ payload_most
   payload_short =
       let name = name_is schema.name named in
       let each = columns_short schema.columns columns.names in
@@ -110,6 +110,9 @@ table_made names words table schema s = record {
 spelled_built : (names : Names) (words : List (List ℕ)) (event : Event) → SpelledBy names words event → IsBuilt event
 spelled_built names words (events.Table table schema) s = table_made names words table schema s
 spelled_built names words (events.Client client gate tables) s = record { least = s.1.0; most = s.1.1 }
+spelled_built names words (events.Draft table schema) s = absurd s
+spelled_built names words (events.Create node table) s = absurd s
+spelled_built names words (events.Drop node table) s = absurd s
 spelled_built names words other s = tt
 
 pub built : (names : Names) (line : List ℕ) (event : Event) → Spells names line event → IsBuilt event

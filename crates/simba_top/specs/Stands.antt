@@ -115,8 +115,8 @@ IsCause (BadLine fault) input script count left = IsBadAt input script count fau
 IsCause (Limit limit) input script count left = IsLimitAt input script count limit
 IsCause Sent input script count left = (event : Event) × IsNext input script count event
 
--- and what it has written then of a run that has P, where memory wasn't refused; `before` and `after` are the bytes of the
--- sink
+-- and what it has written then of a run that has P, where memory wasn't refused; `before` and `after` are the bytes of
+-- the sink
 abbrev pub EndedBy : Output → (List Happening → Type 0) → Stop → List ℕ → ℕ → Option (List ℕ) → Option (List ℕ)
     → Option (List ℕ) → Type 0
 EndedBy output P Put input count left before after =

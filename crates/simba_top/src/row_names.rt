@@ -35,8 +35,11 @@ fn row_in(event: &Event) -> Option<(TableNo, &RowId)>
         Event::Store { .. }
         | Event::Gate { .. }
         | Event::Table { .. }
+        | Event::Draft { .. }
         | Event::Client { .. }
         | Event::Link { .. }
+        | Event::Create { .. }
+        | Event::Drop { .. }
         | Event::Sync { .. }
         | Event::Pull { .. }
         | Event::BeginCr { .. }

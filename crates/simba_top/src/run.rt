@@ -29,14 +29,14 @@ use std::alloc::Global;
 pub const MOST_LINES: u64 = 1_048_576;
 
 /// The whole program: reads a script from the source, carries it out on disks of the depot, and writes its transcript
-/// to the sink, one `put` for each line, the lines of an event when it ends; or, where a report is asked for, one line of
-/// JSON at the end. A disk that fails doesn't end the run.
+/// to the sink, one `put` for each line, the lines of an event when it ends; or, where a report is asked for, one line
+/// of JSON at the end. A disk that fails doesn't end the run.
 ///
 /// Each line of a transcript has the text of one line alone. Where the depot tells its disks, the run is on them
-/// (`IsOnDisks`), whatever the status but 2 and 6: of each table that was declared, and made, the disk of rows came back
-/// under its number, and whatever a crash may leave of it are the rows of the history that the transcript's lines tell of
-/// the table (`told_history`), or of that with the update at work. What a crash leaves while an event is carried out is a
-/// clause of `World::step`.
+/// (`IsOnDisks`), whatever the status but 2 and 6: of each table that was declared, and made, the disk of rows came
+/// back under its number, and whatever a crash may leave of it are the rows of the history that the transcript's lines
+/// tell of the table (`told_history`), or of that with the update at work. What a crash leaves while an event is
+/// carried out is a clause of `World::step`.
 ///
 /// The answer is the status that the program ends with:
 ///
@@ -71,7 +71,8 @@ pub fn run_simba<S: Source, K: Sink, P: Depot>(
     ensures done { (output : AnOutput) → asked (map string_bytes words.now) ≡ Some output
         → result ≡ 0 → IsAtEnd (S.left source.new) × IfSome (S.left source.old) (λ input.
         (script : List AnEvent) × IsWhole input script
-        × TellsAll output (IsOnDisks P.Disk.state (P.returned depot.new)) script (K.holds sink.old) (K.holds sink.new)) }
+        × TellsAll output
+        (IsOnDisks P.Disk.state (P.returned depot.new)) script (K.holds sink.old) (K.holds sink.new)) }
 
     // 3 and 7: the first line that is in no grammar, or passes a limit, ended the run, or whose event sends more bytes
     // than may be sent.
@@ -85,7 +86,8 @@ pub fn run_simba<S: Source, K: Sink, P: Depot>(
         ((script : List AnEvent) × (count limit : ℕ) × IsLimitAt input script count limit
         × TellsStop output (IsOnDisks P.Disk.state (P.returned depot.new)) script 7 (count + 1) limit
         (K.holds sink.old) (K.holds sink.new))
-        ⊎ TellsOver output (IsOnDisks P.Disk.state (P.returned depot.new)) input (K.holds sink.old) (K.holds sink.new)) }
+        ⊎ TellsOver output
+        (IsOnDisks P.Disk.state (P.returned depot.new)) input (K.holds sink.old) (K.holds sink.new)) }
 
     // 4: the source failed; all lines that it gave whole were carried out.
     ensures read { (output : AnOutput) → asked (map string_bytes words.now) ≡ Some output
@@ -202,7 +204,8 @@ fn run_whole<S: Source, K: Sink, P: Depot>(
         (λ input. IsDone outputs.Transcript (IsOnDisks P.Disk.state (P.returned depot.new)) input
         (K.holds sink.old) (K.holds sink.new))) }
     ensures stopped { IfErr result (λ stop. IfSome (S.left source.old)
-        (λ input. Stopped outputs.Transcript (IsOnDisks P.Disk.state (P.returned depot.new)) stop input (S.left source.new)
+        (λ input. Stopped outputs.Transcript
+        (IsOnDisks P.Disk.state (P.returned depot.new)) stop input (S.left source.new)
         (K.holds sink.old) (K.holds sink.new))) }
     ensures back { OnOk result ((k : ℕ) → (P.state depot.new).is_out k ≡ false) }
     ensures back_stopped { IfErr result (λ stop. stop ≢ AStop.Memory
@@ -266,7 +269,8 @@ fn reported<K: Sink, D: Disk + Drop, P: Depot<Disk = D>>(
     ensures done { (input : List ℕ) → IsFinished D.state input run (P.state depot.old).is_out
         → OnOk result (IsDone outputs.Report (IsOnDisks D.state (P.returned depot.new)) input
         (K.holds sink.old) (K.holds sink.new)) }
-    ensures stopped { (input : List ℕ) (left : Option (List ℕ)) → IsFinished D.state input run (P.state depot.old).is_out
+    ensures stopped { (input : List ℕ) (left : Option (List ℕ))
+        → IsFinished D.state input run (P.state depot.old).is_out
         → IfErr result (λ stop. Stopped outputs.Report (IsOnDisks D.state (P.returned depot.new)) stop input left
         (K.holds sink.old) (K.holds sink.new)) }
     ensures back { (k : ℕ) → (P.state depot.new).is_out k ≡ false }

@@ -226,7 +226,7 @@ module _ {D : Type 0} (state : D → DiskState) (images : D → ℕ → List ℕ
 
     pub opened_then : found ≡ true → IsOpenedAt x.brought.v c table
     opened_then is =
-        let k = opened_there x.brought.v.world c table (sym is ∙ opened_seen.found) in record { node = k.node; there = k.there; opened = k.opened; at = k.at }
+        let k = opened_there x.brought.v.world c table (sym is ∙ opened_seen.found) in record { node = k.node; there = k.there; opened = k.opened; at = k.at; free = k.free }
 
     pub unopened_then : found ≡ false → TakesNothing x.brought.v.world table (nodes.Client c)
     unopened_then is =

@@ -1,5 +1,5 @@
 -- A part that comes to a node: what is handed to it, and what is kept.
-use Rattle.std.proofs.Common.{◌≡◌, ◌≢◌, ℕ, zero, suc, true, List, [], ◌∷◌, Some, refl, sym, ◌∙◌, ap, subst}
+use Rattle.std.proofs.Common.{◌≡◌, ◌≢◌, ℕ, zero, suc, true, false, List, [], ◌∷◌, Some, refl, sym, ◌∙◌, ap, subst}
 use Rattle.std.specs.Prelude.{slice_get}
 use Rattle.std.specs.List.{AllByRecursion}
 use Rattle.disk_trait.specs.Calls.{DiskState}
@@ -126,7 +126,8 @@ module _ (v : Wire) (store : ℕ) (from : Node) (p : PartPacket) (sent : IsSentP
   store_waits is = step_taken at_store.Waits (sym is) no_lucks
 
 module _ (v : Wire) (c : ℕ) (from : Node) (p : PartPacket) (sent : IsSentPart v from (nodes.Client c) p) (ready : is_client_ready v.world c ≡ true) (node : Client)
-    (there : client_at v.world c ≡ Some node) (opened : TableDisk) (at : table_at (seen node.disk) (part_table p.part) ≡ Some opened) where
+    (there : client_at v.world c ≡ Some node) (opened : TableDisk) (at : table_at (seen node.disk) (part_table p.part) ≡ Some opened)
+    (free : opened.closed ≡ false) where
   abbrev pub came : Arrived
   came = arrived opened (arriving_at v c) p.part
 
@@ -134,7 +135,7 @@ module _ (v : Wire) (c : ℕ) (from : Node) (p : PartPacket) (sent : IsSentPart 
   arrived_wire = with_arriving c (arrived opened (arriving_at v c) p.part).arriving v
 
   pub at_opened : IsAtClient v sent.number p c opened
-  at_opened = client_as v sent.number p (is_sent v from (nodes.Client c) p sent) c sent.to_is ready node there opened at
+  at_opened = client_as v sent.number p (is_sent v from (nodes.Client c) p sent) c sent.to_is ready node there opened at free
 
   step_came : (t : at_client.Taken) → (arrived opened (arriving_at v c) p.part).taken ≡ t → (lucks : Lucks) → delivery v sent lucks ≡ client_taken v c p lucks (record came { taken = t })
   step_came t is lucks = at_opened.step_is lucks ∙ ap (λ (x : at_client.Taken). client_taken v c p lucks (record came { taken = x })) is

@@ -153,38 +153,38 @@ module _ {D : Type 0} (state : D → DiskState) (world : World D) (store : ℕ) 
 
 module _ {D : Type 0} (state : D → DiskState) (world : World D) (c : ℕ) (from : Node) (table : ℕ) (told : ClientTook) (x : IsArrivedAs state world c from table told) where
   abbrev pub arrived_in : Wire
-  arrived_in = arrived_wire x.v c from x.p x.sent x.ready x.it.node x.it.there x.it.opened x.it.at
+  arrived_in = arrived_wire x.v c from x.p x.sent x.ready x.it.node x.it.there x.it.opened x.it.at x.it.free
 
   module _ (m : messages.Message) (is : at_client.Whole m ≡ keeping.taken_of told) where
     abbrev pub arrived_carry : IsToCarry state world from (nodes.Client c) m
-    arrived_carry = client_carry x.v c from x.p x.sent x.ready x.it.node x.it.there x.it.opened x.it.at state world x.held m (is ∙ x.taken)
+    arrived_carry = client_carry x.v c from x.p x.sent x.ready x.it.node x.it.there x.it.opened x.it.at x.it.free state world x.held m (is ∙ x.taken)
 
     module _ (images : D → ℕ → List ℕ → Type 0) (result : Result (List TextLine) WorldFault) (new : World D) where
       pub arrived_comes : Comes state images arrived_in (bring_step arrived_in from (nodes.Client c) m) result world new → Comes state images x.v (delivery x.v x.sent) result world new
       arrived_comes k = comes_as state images x.v arrived_in (delivery x.v x.sent) (bring_step arrived_in from (nodes.Client c) m) result world world new refl refl refl
-          (λ lucks. client_carries x.v c from x.p x.sent x.ready x.it.node x.it.there x.it.opened x.it.at state world x.held m (is ∙ x.taken) lucks) k
+          (λ lucks. client_carries x.v c from x.p x.sent x.ready x.it.node x.it.there x.it.opened x.it.at x.it.free state world x.held m (is ∙ x.taken) lucks) k
 
       pub arrived_ends : Ends state images arrived_in (bring_step arrived_in from (nodes.Client c) m) result world new → Ends state images x.v (delivery x.v x.sent) result world new
       arrived_ends k = ends_as state images x.v arrived_in (delivery x.v x.sent) (bring_step arrived_in from (nodes.Client c) m) result world world new refl refl
-          (λ lucks. client_carries x.v c from x.p x.sent x.ready x.it.node x.it.there x.it.opened x.it.at state world x.held m (is ∙ x.taken) lucks) k
+          (λ lucks. client_carries x.v c from x.p x.sent x.ready x.it.node x.it.there x.it.opened x.it.at x.it.free state world x.held m (is ∙ x.taken) lucks) k
 
   abbrev pub arrived_pull : IsToPull state world
-  arrived_pull = client_pull x.v c from x.p x.sent x.ready x.it.node x.it.there x.it.opened x.it.at state world x.held
+  arrived_pull = client_pull x.v c from x.p x.sent x.ready x.it.node x.it.there x.it.opened x.it.at x.it.free state world x.held
 
   module _ (row : List ℕ) (is : at_client.Tears row ≡ keeping.taken_of told) (images : D → ℕ → List ℕ → Type 0) (result : Result (List TextLine) WorldFault) (new : World D) where
     pub tears_comes : Comes state images arrived_in (pull_step arrived_in c table (row ∷ []) (row ∷ [])) result world new → Comes state images x.v (delivery x.v x.sent) result world new
     tears_comes k = comes_as state images x.v arrived_in (delivery x.v x.sent) (pull_step arrived_in c table (row ∷ []) (row ∷ [])) result world world new refl refl refl
-        (λ lucks. client_tears x.v c from x.p x.sent x.ready x.it.node x.it.there x.it.opened x.it.at row (is ∙ x.taken) table x.table_is lucks) k
+        (λ lucks. client_tears x.v c from x.p x.sent x.ready x.it.node x.it.there x.it.opened x.it.at x.it.free row (is ∙ x.taken) table x.table_is lucks) k
 
     pub tears_ends : Ends state images arrived_in (pull_step arrived_in c table (row ∷ []) (row ∷ [])) result world new → Ends state images x.v (delivery x.v x.sent) result world new
     tears_ends k = ends_as state images x.v arrived_in (delivery x.v x.sent) (pull_step arrived_in c table (row ∷ []) (row ∷ [])) result world world new refl refl
-        (λ lucks. client_tears x.v c from x.p x.sent x.ready x.it.node x.it.there x.it.opened x.it.at row (is ∙ x.taken) table x.table_is lucks) k
+        (λ lucks. client_tears x.v c from x.p x.sent x.ready x.it.node x.it.there x.it.opened x.it.at x.it.free row (is ∙ x.taken) table x.table_is lucks) k
 
   pub arrived_waits : (images : D → ℕ → List ℕ → Type 0) → ((disk : D) (image : List ℕ) → images disk (state disk).moment image → IsImage (state disk).pending image)
       → at_client.Waits ≡ keeping.taken_of told → (result : Result (List TextLine) WorldFault) → IfOk result (λ lines. map line_of lines ≡ AnswerLine facts.Done ∷ [])
       → Comes state images x.v (delivery x.v x.sent) result world world
   arrived_waits images only_now is result lines = still_comes state images only_now x.v arrived_in facts.Done refl world world refl refl refl x.held (delivery x.v x.sent)
-      (client_waits x.v c from x.p x.sent x.ready x.it.node x.it.there x.it.opened x.it.at (is ∙ x.taken)) result lines
+      (client_waits x.v c from x.p x.sent x.ready x.it.node x.it.there x.it.opened x.it.at x.it.free (is ∙ x.taken)) result lines
 
 module _ {D : Type 0} (state : D → DiskState) (world : World D) (c : ℕ) (from : Node) (table : ℕ) (held : RowHeld) (part : Message) (x : IsHeldOfPart state world c from table held part) where
   pub held_places : client_calls.may_gather (part_of part) ≡ true
@@ -197,6 +197,7 @@ module _ {D : Type 0} (state : D → DiskState) (world : World D) (c : ℕ) (fro
     there = x.of_opened.opened.there;
     opened = x.of_opened.opened.opened;
     at = subst (λ (t : ℕ). table_at (seen x.of_opened.opened.node.disk) t ≡ Some x.of_opened.opened.opened) x.of_opened.of_client.table_is x.of_opened.opened.at;
+    free = x.of_opened.opened.free;
   }
 
   module _ (told : ClientTook) (after : tree.BTreeMap ℕ Arriving)

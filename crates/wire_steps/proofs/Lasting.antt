@@ -10,6 +10,8 @@ use Rattle.row_value.specs.declared.schema.Schema.{Schema}
 use Rattle.row_value.specs.declared.schema.Scheme.{Scheme}
 use Rattle.table_model.specs.declared.event.Event.{Event}
 use Rattle.table_model.specs.declared.event.Event.TheVariants as events
+use Rattle.table_model.specs.declared.table_state.TableState.{TableState}
+use Rattle.table_model.specs.declared.table_state.TableState.TheVariants as states
 use Rattle.step_tables.specs.Members.{Among}
 use Rattle.step_tables.specs.Facts as facts
 use Rattle.step_tables.specs.Messages.{Luck}
@@ -25,7 +27,7 @@ use Rattle.world_tables.specs.World.{client_falls, history_on, table_step, move_
 use Rattle.world_tables.specs.World.{move_there, move_client, first_luck, other_lucks, table_falls}
 use Rattle.world_tables.specs.World.{tables_fall, store_falls}
 use Rattle.world_tables.specs.World.{store_starts, starts_by, client_starts}
-use Rattle.world_tables.specs.World.{client_follows, agenda_of, with_table, declared, joined, new_client}
+use Rattle.world_tables.specs.World.{client_follows, with_table, new_hosted, declared, joined, new_client}
 use Rattle.world_tables.specs.World.{open_all, first_agenda, answering, answered, step}
 use Rattle.world_laws.proofs.Looks.{look_cases}
 use Rattle.world_laws.proofs.Owners.{among_tables}
@@ -97,6 +99,7 @@ module _ (number : ℕ) (g : Scheme) (size table : ℕ) where
   stays_down d None (store.Work messages.FailedBefore) plain down = refl
   stays_down d None (store.Work messages.FailedAfter) plain down = refl
   stays_down d None (store.Crash luck) plain down = falls_down d None luck
+  stays_down d None (store.Place put) plain down = refl
   stays_down d None store.Start plain down = absurd plain
 
 module _ (w : World) (t : ℕ) (move : StoreMove) where
@@ -152,6 +155,7 @@ module _ (c : ℕ) (shape : Shape) where
   client_stays_down d None (client.Work messages.FailedBefore) plain down = refl
   client_stays_down d None (client.Work messages.FailedAfter) plain down = refl
   client_stays_down d None (client.Crash luck) plain down = refl
+  client_stays_down d None (client.Alter table change) plain down = refl
   client_stays_down d None client.Start plain down = absurd plain
 
 module _ (but : ℕ → Type 0) (w : World) (c : ℕ) (move : ClientMove) (shape : Shape) where
@@ -291,15 +295,14 @@ joins_at {X} up es k x none q = ⊎_elim
     (λ e. subst (λ (o : Option X). MayJoin up (lookup (is_at (nat_cmp q)) es) o) (sym e.1) (joins_self up (lookup (is_at (nat_cmp q)) es)))
     (look_cases es k x q)
 
-module _ (w : World) (table : ℕ) (schema : Schema) where
-  with_grows : (but : ℕ → Type 0) (made : Bool) → hosted_at w table ≡ None → Grows but w (with_table w table schema made)
+module _ (w : World) (table : ℕ) (schema : Schema) (stage : TableState) where
+  with_grows : (but : ℕ → Type 0) (made : Bool) → hosted_at w table ≡ None → Grows but w (with_table w table schema stage made)
   with_grows but made none = record {
-    tables = joins_at is_hosted_up w.tables table
-        (record { store = record { disk = record { items = []; pending = None; left = [] }; agenda = agenda_of made }; history = []; made = made }) none;
+    tables = joins_at is_hosted_up w.tables table (new_hosted stage made) none;
     clients = λ c other. joins_self is_client_up (client_at w c);
   }
 
-  pub declared_grows : (but : ℕ → Type 0) (luck : Luck) (o : Option Hosted) → hosted_at w table ≡ o → Grows but w (declared w table schema luck o)
+  pub declared_grows : (but : ℕ → Type 0) (luck : Luck) (o : Option Hosted) → hosted_at w table ≡ o → Grows but w (declared w table schema stage luck o)
   declared_grows but luck (Some hosted) at = grows_self but w
   declared_grows but messages.Done None at = with_grows but true at
   declared_grows but messages.FailedBefore None at = with_grows but false at
@@ -337,7 +340,8 @@ step_grows w (events.Store number) lucks plain = record {
   tables = λ t. joins_self is_hosted_up (hosted_at w t);
   clients = λ c other. joins_self is_client_up (client_at w c);
 }
-step_grows w (events.Table table schema) lucks plain = declared_grows w table schema nobody (first_luck lucks.calls) (hosted_at w table) refl
+step_grows w (events.Table table schema) lucks plain = declared_grows w table schema states.Live nobody (first_luck lucks.calls) (hosted_at w table) refl
+step_grows w (events.Draft table schema) lucks plain = declared_grows w table schema states.Draft nobody (first_luck lucks.calls) (hosted_at w table) refl
 step_grows w (events.Gate number) lucks plain = grows_self nobody w
 step_grows w (events.Client c gate tables) lucks plain = joined_grows nobody w c tables (first_luck lucks.calls) (client_at w c) refl
 step_grows w (events.Start node) lucks plain = start_grows w lucks node plain

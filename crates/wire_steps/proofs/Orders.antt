@@ -5,14 +5,16 @@ use Rattle.stab_base.specs.declared.node.Node.{Node}
 use Rattle.stab_base.specs.declared.node.Node.TheVariants as nodes
 use Rattle.table_model.specs.declared.event.Event.{Event}
 use Rattle.table_model.specs.declared.event.Event.TheVariants as events
+use Rattle.table_model.specs.declared.table_state.TableState.TheVariants as states
 use Rattle.table_model.specs.declared.line.RowPair.{RowPair}
+use Rattle.row_value.specs.declared.schema.Schema.{Schema}
 use Rattle.conflicts.specs.declared.stored.Stored.{Stored}
 use Rattle.step_tables.specs.Facts.{Answer, Refusal}
 use Rattle.step_tables.specs.Facts as facts
 use Rattle.step_tables.specs.Messages.{Message, Luck, table_of}
 use Rattle.step_tables.specs.Messages as messages
 use Rattle.step_tables.specs.StoreMoves as store
-use Rattle.step_tables.specs.StoreMoves.{StoreMove, StoreTask}
+use Rattle.step_tables.specs.StoreMoves.{StoreMove, StoreTask, SidePut}
 use Rattle.step_tables.specs.ClientMoves as client
 use Rattle.step_tables.specs.ClientMoves.{Client, ClientTask, ClientMove, Shape, no_shape}
 use Rattle.world_tables.specs.World.{World, Packet, Hosted, Moved, WorldStep, Lucks, owner_of, hosted_at, hosted_by}
@@ -25,7 +27,7 @@ use Rattle.world_tables.specs.World.{crash_luck, table_crashes, store_crashes, c
 use Rattle.world_tables.specs.World.{plan_size, resolve_by, resolve_each, resolve_all, client_pairs, refused}
 use Rattle.world_tables.specs.World.{unless_down, call_there, call, listed, take_read, take_at, to_hosted, to_there}
 use Rattle.world_tables.specs.World.{carried, delivered, row_read, store_shows, chunk_names, history_lines, worked}
-use Rattle.world_tables.specs.World.{all_worked, crashed, with_link, linked, step}
+use Rattle.world_tables.specs.World.{all_worked, crashed, with_link, linked, puts_beside, opens, created, dropped, schema_at, step}
 use Rattle.world_laws.proofs.Calls.{call_is}
 
 abbrev pub StartsNoTable : StoreMove → Type 0
@@ -41,6 +43,7 @@ abbrev pub IsPlain : Event → Type 0
 IsPlain (events.Store number) = ⊥
 IsPlain (events.Gate number) = ⊥
 IsPlain (events.Table table schema) = ⊥
+IsPlain (events.Draft table schema) = ⊥
 IsPlain (events.Client c gate tables) = ⊥
 IsPlain (events.Start node) = ⊥
 IsPlain other = Unit {0}
@@ -171,7 +174,7 @@ module _ (R : World → World → Type 0) (here : (w : World) → R w w) (later 
       → Steps w (call_there w c move shape lucks o)
   calls_there w c move shape lucks plain o at =
       let x : World = (move_client c move shape w).world in
-      call_is (λ (s : WorldStep). Steps w s) w c move shape lucks (λ r before. here w) (client_fallen c w)
+      call_is (λ (s : WorldStep). Steps w s) w c move shape lucks (λ r before. here w) (client_fallen c w) (λ take. here w)
       (λ node there. later w x (client_follows_from node.agenda c (other_lucks lucks) x).world (of_client w c move shape plain)
       (followed_from node.agenda c (other_lucks lucks) x)) o at
 
@@ -209,22 +212,22 @@ module _ (R : World → World → Type 0) (here : (w : World) → R w w) (later 
       go (Some (facts.Pairs some)) = p
       go (Some (facts.Refuses r)) = p
 
-  taken : (w : World) (table : ℕ) (from : Node) (m : Message) (lucks : List Luck) (o : Option Hosted) → Steps w (to_hosted w table (store.Take from m) lucks o)
-  taken w table from m lucks None = here w
-  taken w table from m lucks (Some hosted) = go hosted.store.agenda
+  taken : (w : World) (table : ℕ) (move : StoreMove) (lucks : List Luck) → StartsNoTable move → (o : Option Hosted) → Steps w (to_hosted w table move lucks o)
+  taken w table move lucks plain None = here w
+  taken w table move lucks plain (Some hosted) = go hosted.store.agenda
     where
       x : World
-      x = (move_table table (store.Take from m) w).world
+      x = (move_table table move w).world
 
-      first : R w (move_table table (store.Take from m) w).world
-      first = of_table w table (store.Take from m) tt
+      first : R w (move_table table move w).world
+      first = of_table w table move plain
 
-      reads : (luck : Luck) → Steps w (take_read w table hosted (store.Take from m) (other_lucks lucks) luck)
+      reads : (luck : Luck) → Steps w (take_read w table hosted move (other_lucks lucks) luck)
       reads messages.FailedBefore = falls w (owner_of w table)
       reads messages.FailedAfter = falls w (owner_of w table)
       reads messages.Done = later w x (table_follows table (other_lucks lucks) x).world first (table_followed table (other_lucks lucks) x)
 
-      go : (o : Option (List StoreTask)) → Steps w (take_at w table hosted (store.Take from m) lucks o)
+      go : (o : Option (List StoreTask)) → Steps w (take_at w table hosted move lucks o)
       go None = first
       go (Some (task ∷ more)) = first
       go (Some []) = reads (first_luck lucks)
@@ -235,7 +238,7 @@ module _ (R : World → World → Type 0) (here : (w : World) → R w w) (later 
 
   pub carries : (w : World) (p : Packet) (shape : Shape) (lucks : List Luck) (to : Node) → Steps w (carried w p shape lucks to)
   carries w p shape lucks (nodes.Store number) =
-      by_down w (nodes.Store number) _ (taken w (table_of p.message) p.from p.message lucks (hosted_by w number (table_of p.message)))
+      by_down w (nodes.Store number) _ (taken w (table_of p.message) (store.Take p.from p.message) lucks tt (hosted_by w number (table_of p.message)))
   carries w p shape lucks (nodes.Client c) = to_client w c p.message shape lucks (client_at w c) refl
   carries w p shape lucks (nodes.Gate gate) = here w
 
@@ -283,14 +286,34 @@ module _ (R : World → World → Type 0) (here : (w : World) → R w w) (later 
   crashes w calls lucks (nodes.Client c) = of_client w c (client.Crash (crash_luck calls (other_lucks lucks) (first_luck lucks))) no_shape tt
   crashes w calls lucks (nodes.Gate gate) = here w
 
+  puts : (w : World) (number table : ℕ) (put : SidePut) (lucks : List Luck) → Steps w (puts_beside w number table put lucks)
+  puts w number table put lucks = by_down w (nodes.Store number) _ (taken w table (store.Place put) lucks tt (hosted_by w number table))
+
+  opened : (w : World) (c table : ℕ) (shape : Shape) (lucks : List Luck) (o : Option Schema) → Steps w (opens w c table shape lucks o)
+  opened w c table shape lucks None = here w
+  opened w c table shape lucks (Some schema) = called w c (client.Alter table (client.Opens schema)) shape lucks tt
+
+  creates : (w : World) (table : ℕ) (shape : Shape) (lucks : List Luck) (node : Node) → Steps w (created w table shape lucks node)
+  creates w table shape lucks (nodes.Store number) = puts w number table (store.PutState states.Live) lucks
+  creates w table shape lucks (nodes.Client c) = opened w c table shape lucks (schema_at w table)
+  creates w table shape lucks (nodes.Gate gate) = here w
+
+  drops : (w : World) (table : ℕ) (shape : Shape) (lucks : List Luck) (node : Node) → Steps w (dropped w table shape lucks node)
+  drops w table shape lucks (nodes.Store number) = puts w number table (store.PutState states.Dropped) lucks
+  drops w table shape lucks (nodes.Client c) = called w c (client.Alter table client.Closes) shape lucks tt
+  drops w table shape lucks (nodes.Gate gate) = here w
+
   pub stepped : (w : World) (event : Event) (lucks : Lucks) → IsPlain event → Steps w (step w event lucks)
   stepped w (events.Store number) lucks plain = absurd plain
   stepped w (events.Gate number) lucks plain = absurd plain
   stepped w (events.Table table schema) lucks plain = absurd plain
+  stepped w (events.Draft table schema) lucks plain = absurd plain
   stepped w (events.Client c gate tables) lucks plain = absurd plain
   stepped w (events.Write c table row x) lucks plain = called w c (client.Write table row x) lucks.shape lucks.calls tt
   stepped w (events.Edit c table row x) lucks plain = called w c (client.Change table row x) lucks.shape lucks.calls tt
   stepped w (events.Link c up) lucks plain = links w c up (client_at w c)
+  stepped w (events.Create node table) lucks plain = creates w table lucks.shape lucks.calls node
+  stepped w (events.Drop node table) lucks plain = drops w table lucks.shape lucks.calls node
   stepped w (events.Show c table row) lucks plain = called w c (client.Show table row) lucks.shape lucks.calls tt
   stepped w (events.Sum c table row) lucks plain = called w c (client.Sum table row) lucks.shape lucks.calls tt
   stepped w (events.Sync c table) lucks plain = called w c (client.Sync table) lucks.shape lucks.calls tt

@@ -49,7 +49,7 @@ module _ {D : Type 0} (state : D → DiskState) (images : D → ℕ → List ℕ
   held_seen c table row found result r k held chunk = record {
     found = (
       chunk (some_chunk v.world (reached_fair v.world (wire_reached v r)) c table row found k.found),
-      λ it. held row it.opened (held_there v.world c table row found k.found it.node it.there it.opened it.at),
+      λ it. held row it.opened (held_there v.world c table row found k.found it.node it.there it.opened it.at it.free),
     );
     held = k.held;
     same = k.same;

@@ -86,6 +86,8 @@ store_tells (told_facts.Accepted table entry) = refl
 store_tells (told_facts.Forward table entry) = refl
 store_tells (told_facts.Back table version) = refl
 store_tells (told_facts.Recovered store table) = refl
+store_tells (told_facts.Made table) = refl
+store_tells (told_facts.Unmade table) = refl
 
 store_tells_none : (facts : List StoreFact) → flat_map torn_by_fact (map store_facts.fact_of facts) ≡ []
 store_tells_none [] = refl

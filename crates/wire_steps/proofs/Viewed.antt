@@ -1,6 +1,6 @@
 -- What a table has of a row, as a part is weighed by it, and what a client holds of one.
 use Rattle.std.proofs.Common.{◌≡◌, ℕ, ◌<◌, Bool, true, false, List, [], ◌∷◌, ◌++◌, Option, Some, None, refl, sym, ◌∙◌, ap, subst, append-nil, append_assoc, true≢false}
-use Rattle.std.specs.Prelude.{◌==◌, ◌&&◌, not, zip, is_some, option_map}
+use Rattle.std.specs.Prelude.{◌==◌, ◌&&◌, not, zip, is_some, option_map, if◌then◌else◌}
 use Rattle.std.proofs.lemmas.Bool.{eqb-true, and_parts}
 use Rattle.std.proofs.lemmas.List.{map-append}
 use Rattle.row_value.specs.declared.schema.Schema.{Schema}
@@ -20,8 +20,9 @@ use Rattle.client_node.specs.declared.calls.held.RowHeld.{RowHeld as RowFound}
 use Rattle.client_node.specs.HeldRows.{row_held}
 use Rattle.store_node.specs.Calls.{IsRowAt}
 use Rattle.store_node.specs.declared.showing.WholeRow.{WholeRow}
-use Rattle.journal_host.specs.Calls.{held_by, has_table}
+use Rattle.journal_host.specs.Calls.{if_open, held_by, has_table}
 use Rattle.wire_tables.specs.Wire.{Wire, is_hosted_up, is_client_up}
+use Rattle.wire_laws.specs.Carried.{is_open_in}
 use Rattle.wire_laws.proofs.Carried.{reached_world}
 use Rattle.world_tables.specs.Ready.{is_idle, is_idle_table, is_table_ready, is_idle_client, is_client_ready}
 use Rattle.world_tables.specs.World.{World as AWorld, Hosted, schema_at, hosted_at, client_at, chunk_in, owner_of, has_store, is_down, is_cut}
@@ -183,39 +184,53 @@ pub record IsOpened (w : AWorld) (c table : ℕ) : Type 0 where
   pub there : client_at w c ≡ Some node
   pub opened : TableDisk
   pub at : table_at (seen node.disk) table ≡ Some opened
+  pub free : opened.closed ≡ false
 
 pub opened_there : (w : AWorld) (c table : ℕ) → true ≡ has_table (client_at w c) table → IsOpened w c table
 opened_there w c table e = go (client_at w c) refl e
   where
-    by_table : (node : Client) → client_at w c ≡ Some node → (o : Option TableDisk) → table_at (seen node.disk) table ≡ o → true ≡ is_some o → IsOpened w c table
+    by_table : (node : Client) → client_at w c ≡ Some node → (o : Option TableDisk) → table_at (seen node.disk) table ≡ o → true ≡ is_some (if_open o) → IsOpened w c table
     by_table node there None at e = absurd (true≢false e)
-    by_table node there (Some opened) at e = record { node = node; there = there; opened = opened; at = at }
+    by_table node there (Some opened) at e = by_closed opened.closed refl e
+      where
+        by_closed : (b : Bool) → opened.closed ≡ b → true ≡ is_some (if b then None else Some opened) → IsOpened w c table
+        by_closed true closed e = absurd (true≢false e)
+        by_closed false free e = record { node = node; there = there; opened = opened; at = at; free = free }
 
     go : (o : Option Client) → client_at w c ≡ o → true ≡ has_table o table → IsOpened w c table
     go None there e = absurd (true≢false e)
     go (Some node) there e = by_table node there (table_at (seen node.disk) table) refl e
 
-pub not_opened : (w : AWorld) (c table : ℕ) (node : Client) → client_at w c ≡ Some node → false ≡ has_table (client_at w c) table → table_at (seen node.disk) table ≡ None
-not_opened w c table node there e = go (table_at (seen node.disk) table) refl
+pub not_opened : (w : AWorld) (c table : ℕ) (node : Client) → client_at w c ≡ Some node → false ≡ has_table (client_at w c) table → is_open_in (table_at (seen node.disk) table) ≡ false
+not_opened w c table node there e = go (table_at (seen node.disk) table) (e ∙ ap (λ (o : Option Client). has_table o table) there)
   where
-    go : (o : Option TableDisk) → table_at (seen node.disk) table ≡ o → table_at (seen node.disk) table ≡ None
-    go None at = at
-    go (Some opened) at = absurd (true≢false (sym (e ∙ (ap (λ (o : Option Client). has_table o table) there ∙ ap (λ (o : Option TableDisk). is_some o) at))))
+    by_closed : (b : Bool) (opened : TableDisk) → false ≡ is_some (if b then None else Some opened) → not b ≡ false
+    by_closed true opened e = refl
+    by_closed false opened e = sym e
+
+    go : (o : Option TableDisk) → false ≡ is_some (if_open o) → is_open_in o ≡ false
+    go None e = refl
+    go (Some opened) e = by_closed opened.closed opened e
 
 -- what is held of a row of an opened table
 pub held_there : (w : AWorld) (c table : ℕ) (row : List ℕ) (found : Option RowFound) → found ≡ held_by (client_at w c) table row → (node : Client) → client_at w c ≡ Some node
-    → (opened : TableDisk) → table_at (seen node.disk) table ≡ Some opened → found ≡ Some (row_held row opened)
-held_there w c table row found is node there opened at =
-    is ∙ (ap (λ (o : Option Client). held_by o table row) there ∙ ap (option_map (row_held row)) at)
+    → (opened : TableDisk) → table_at (seen node.disk) table ≡ Some opened → opened.closed ≡ false → found ≡ Some (row_held row opened)
+held_there w c table row found is node there opened at free =
+    is ∙ (ap (λ (o : Option Client). held_by o table row) there ∙ (ap (λ (o : Option TableDisk). option_map (row_held row) (if_open o)) at
+    ∙ ap (λ (b : Bool). option_map (row_held row) (if b then None else Some opened)) free))
 
 -- its chunks have some size
 pub found_size : (w : AWorld) → IsFair w → (c table : ℕ) (row : List ℕ) (x : RowFound) → Some x ≡ held_by (client_at w c) table row → 0 < x.chunk
 found_size w f c table row x is = go (client_at w c) refl is
   where
-    by_table : (node : Client) → client_at w c ≡ Some node → (o : Option TableDisk) → table_at (seen node.disk) table ≡ o → Some x ≡ option_map (row_held row) o → 0 < x.chunk
+    by_table : (node : Client) → client_at w c ≡ Some node → (o : Option TableDisk) → table_at (seen node.disk) table ≡ o → Some x ≡ option_map (row_held row) (if_open o) → 0 < x.chunk
     by_table node there None at e = absurd cc
-    by_table node there (Some opened) at e =
-        let same : x ≡ row_held row opened = cc in subst (λ (y : RowFound). 0 < y.chunk) (sym same) (opened_size w f c node there table opened at)
+    by_table node there (Some opened) at e = by_closed opened.closed e
+      where
+        by_closed : (b : Bool) → Some x ≡ option_map (row_held row) (if b then None else Some opened) → 0 < x.chunk
+        by_closed true e = absurd cc
+        by_closed false e =
+            let same : x ≡ row_held row opened = cc in subst (λ (y : RowFound). 0 < y.chunk) (sym same) (opened_size w f c node there table opened at)
 
     go : (o : Option Client) → client_at w c ≡ o → Some x ≡ held_by o table row → 0 < x.chunk
     go None there e = absurd cc

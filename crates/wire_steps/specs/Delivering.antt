@@ -1,5 +1,5 @@
 -- A part that comes to a node, and what is kept of it.
-use Rattle.std.specs.Prelude.{◌≡◌, ◌<◌, ◌==◌, ◌&&◌, ℕ, Bool, true, Option, Some, slice_get}
+use Rattle.std.specs.Prelude.{false, ◌≡◌, ◌<◌, ◌==◌, ◌&&◌, ℕ, Bool, true, Option, Some, slice_get}
 use Rattle.disk_trait.specs.Calls.{DiskState}
 use Rattle.stab_base.specs.declared.node.Node.{Node}
 use Rattle.stab_base.specs.declared.node.Node.TheVariants as nodes
@@ -100,12 +100,13 @@ pub record IsOfClient {D : Type 0} (state : D → DiskState) (world : World D) (
   pub table_is : table ≡ part_table brought.p.part
   pub ready : is_client_ready brought.v.world c ≡ true
 
--- and has the table opened
+-- and has the table opened, and hasn't closed it since
 pub record IsOpenedAt (v : Wire) (c table : ℕ) : Type 0 where
   pub node : Client
   pub there : client_at v.world c ≡ Some node
   pub opened : TableDisk
   pub at : table_at (seen node.disk) table ≡ Some opened
+  pub free : opened.closed ≡ false
 
 pub record IsOfOpened {D : Type 0} (state : D → DiskState) (world : World D) (c : ℕ) (from : Node) (table : ℕ)
     (message : Message) : Type 0 where

@@ -8,7 +8,8 @@ ghost use Rattle.node_steps.specs.declared.fault.WorldFault.TheVariants.{Memory}
 ghost use Rattle.wire_steps.specs.Steps.{HavePlansBelow};
 ghost use Rattle.wire_steps.specs.Sending.{IsToTell, IsTold, IsSendFault, IsOverFault};
 ghost use Rattle.node_steps.specs.Steps.{SpendsNumber};
-ghost use Rattle.wire_steps.specs.Calls.{Comes, Ends, IsLimited, IsLimitedBy, IsToCarry, IsToPull, bring_step, pull_step};
+ghost use Rattle.wire_steps.specs.Calls.{Comes, Ends, IsLimited, IsLimitedBy, IsToCarry, IsToPull, bring_step};
+ghost use Rattle.wire_steps.specs.Calls.{pull_step};
 
 use crate::sending::tell_outs;
 use crate::world::World;

@@ -30,20 +30,6 @@ use store_host::TableOut;
 use store_node::{StoreFact, StoreOut};
 use table_model::{Fact, Facts, TextLine};
 
-// The table that a message is about.
-fn table_in(message: &Message) -> TableNo
-    ensures { result ≡ table_of (message_of message.now) }
-{
-    match message {
-        Message::PullRequest(request) => request.table,
-        Message::PullResponse(response) => response.table,
-        Message::SyncRequest(request) => request.table,
-        Message::SyncResponse(response) => response.table,
-        Message::TornRowRequest(request) => request.table,
-        Message::TornRowResponse(response) => response.table,
-    }
-}
-
 /// The size of a table's chunks, 0 where it isn't declared.
 pub(crate) fn chunk_of<D: Disk + Drop>(nodes: &Nodes<D>, table: TableNo) -> u32
     ensures { (w : AWorld) → NodesHold D.state w nodes.now → result ≡ chunk_in (schema_at w table) }
@@ -98,7 +84,7 @@ fn address<D: Disk + Drop>(
 {
     match to {
         Some(node) => node,
-        None => Node::Store(keeper(nodes, from, table_in(message))),
+        None => Node::Store(keeper(nodes, from, message.table())),
     }
 }
 
@@ -119,7 +105,7 @@ fn send<D: Disk + Drop>(
     ensures only { IfErr result IsSendFault }
 {
     know_widths(&message);
-    let chunk = chunk_of(nodes, table_in(&message));
+    let chunk = chunk_of(nodes, message.table());
     match network.send(from, to, chunk, message, lines) {
         Ok(()) => Ok(()),
         Err(fault) => Err(fault_of(fault)),
@@ -157,6 +143,8 @@ fn told(fact: StoreFact) -> Fact
         StoreFact::Forward { table, entry } => Fact::Forward { table, entry },
         StoreFact::Back { table, version } => Fact::Back { table, version },
         StoreFact::Recovered { store, table } => Fact::StoreRecovered { store, table },
+        StoreFact::Made { table } => Fact::Made { table },
+        StoreFact::Unmade { table } => Fact::Unmade { table },
     }
 }
 

@@ -49,7 +49,9 @@ fn note_fact(it: &mut Arriving, fact: &Fact) -> Result<(), AllocError>
         | Fact::Accepted { .. }
         | Fact::Forward { .. }
         | Fact::Back { .. }
-        | Fact::StoreRecovered { .. } => Ok(()),
+        | Fact::StoreRecovered { .. }
+        | Fact::Made { .. }
+        | Fact::Unmade { .. } => Ok(()),
     }
 }
 

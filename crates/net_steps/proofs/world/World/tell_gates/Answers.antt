@@ -14,3 +14,8 @@ pub returns-in-Gate-clause-told : goal.returns-in-Gate-clause-told
 returns-in-Gate-clause-told g c stores schemas gates h =
     subst (λ (e : Event). OnOk c.add_gate.result (HoldsGates (stores_with e stores) (schemas_with e schemas) (gates_with e gates) c.add_gate.new.self)) (sym c.in-Gate.is)
     (c.add_gate.ensures.held stores schemas gates h)
+
+pub returns-in-Draft-clause-told : goal.returns-in-Draft-clause-told
+returns-in-Draft-clause-told g c stores schemas gates h =
+    subst (λ (e : Event). OnOk c.add_table-in-Draft.result (HoldsGates (stores_with e stores) (schemas_with e schemas) (gates_with e gates) c.add_table-in-Draft.new.self)) (sym c.in-Draft.is)
+    (c.add_table-in-Draft.ensures stores schemas gates h)

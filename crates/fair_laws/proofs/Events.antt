@@ -154,7 +154,7 @@ module _ (w : World) (f : IsFair w) where
   step_fair (events.Store number) built lucks = with_stores w (number ∷ w.stores) (joining number w.downs) f
   step_fair (events.Gate number) built lucks = f
   step_fair (events.Table table schema) built lucks = declared_fair w f table schema built states.Live (first_luck lucks.calls) (hosted_at w table) refl
-  step_fair (events.Draft table schema) built lucks = absurd built
+  step_fair (events.Draft table schema) built lucks = declared_fair w f table schema built states.Draft (first_luck lucks.calls) (hosted_at w table) refl
   step_fair (events.Client c gate tables) built lucks = joined_fair w f c built tables (first_luck lucks.calls) (client_at w c)
   step_fair (events.Write c table row x) built lucks = call_fair w f c (client.Write table row x) lucks.shape lucks.calls (client_at w c) tt
   step_fair (events.Edit c table row x) built lucks = call_fair w f c (client.Change table row x) lucks.shape lucks.calls (client_at w c) tt

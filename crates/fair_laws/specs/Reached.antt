@@ -19,13 +19,11 @@ pub record IsMade (table : ℕ) (schema : Schema) : Type 0 where
   pub spelled : HasSchemaSpelling schema
   pub short : length (schema_spelling schema) + 128 ≤ payload_most
 
--- no table is drafted, made or dropped by a script yet
+-- what a declaration may give
 abbrev pub IsBuilt : Event → Type 0
 IsBuilt (events.Table table schema) = IsMade table schema
-IsBuilt (events.Draft table schema) = ⊥
+IsBuilt (events.Draft table schema) = IsMade table schema
 IsBuilt (events.Client client gate tables) = IsClient client
-IsBuilt (events.Create node table) = ⊥
-IsBuilt (events.Drop node table) = ⊥
 IsBuilt other = Unit {0}
 
 -- such events lead to this world, with some lucks

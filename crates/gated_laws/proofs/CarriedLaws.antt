@@ -23,7 +23,7 @@ use Rattle.asked_laws.specs.Phases.{has_fault, is_of, goes_to, goes_down, phase_
 use Rattle.wire_laws.proofs.TurnsAlike.{IsQuieter, more_comes, deliver_comes, loud_same, held_same, stores_same, listed_same}
 use Rattle.gated_laws.specs.Carried.{is_sent, IsNoGate, IsEventCarried, IsTurnCarried, IsLone, IsLinkTurn, AreCarriedFrom, AreCarried}
 use Rattle.gated_laws.proofs.CarriedLines.{hear_carried, asked_carried, asked_so, answer_carried}
-use Rattle.gated_laws.proofs.CarriedTurns.{by_turns, events_of, schemas_carried, IsOnlyAnswer, lone_only, only_heard}
+use Rattle.gated_laws.proofs.CarriedTurns.{by_turns, by_brought, events_of, schemas_carried, IsOnlyAnswer, lone_only, only_heard}
 
 link_turn : (turn : Turn) → IsLinkTurn turn → (P : Turn → Type 0) → P turn → (c : ℕ) × (up : Bool) × P (record { event = events.Link c up; lines = AnswerLine facts.Done ∷ [] })
 link_turn turn l P p = (l.0, l.1, subst P l.2 p)
@@ -37,7 +37,9 @@ line_same event other f line a = refl
 
 event_same : (sent whole : List Node) (event other : Event) → IsEventCarried sent whole event other → (line : Line) (a : Asked) → line_asked event line a ≡ line_asked other line a
 event_same sent whole (events.Deliver k) other e line a =
-    line_same (events.Deliver k) (events.Deliver e.1) (λ answer b. refl) line a ∙ ap (λ (x : Event). line_asked x line a) (sym e.4)
+    by_brought (λ (x : Event). line_asked (events.Deliver k) line a ≡ line_asked x line a) whole e.0 (λ n at. line_same (events.Deliver k) (events.Deliver n) (λ answer b. refl) line a)
+    (λ table. line_same (events.Deliver k) (events.Create e.0 table) (λ answer b. refl) line a) (λ table. line_same (events.Deliver k) (events.Drop e.0 table) (λ answer b. refl) line a) other e.3
+event_same sent whole (events.Create node table) other e line a = absurd e
 event_same sent whole (events.Client c gate tables) other e line a =
     line_same (events.Client c gate tables) (events.Client c None tables) (λ answer b. refl) line a ∙ ap (λ (x : Event). line_asked x line a) (sym e)
 event_same sent whole (events.Work (nodes.Gate n)) other e line a = absurd e
@@ -89,7 +91,10 @@ are_asked_carried turns others is k = asked_from turns others [] [] is nothing_a
 module _ (c t : ℕ) where
   down_carried : (sent whole : List Node) (event other : Event) (answer : Option Answer) → IsEventCarried sent whole event other → goes_down c sent event answer ≡ goes_down c whole other answer
   down_carried sent whole (events.Deliver k) other answer e =
-      ap (λ (to : Option Node). has_fault answer && goes_to c to) (e.3 ∙ sym e.5) ∙ ap (λ (x : Event). goes_down c whole x answer) (sym e.4)
+      by_brought (λ (x : Event). goes_down c sent (events.Deliver k) answer ≡ goes_down c whole x answer) whole e.0
+      (λ n at. ap (λ (to : Option Node). has_fault answer && goes_to c to) (e.2 ∙ sym at)) (λ table. ap (λ (to : Option Node). has_fault answer && goes_to c to) e.2)
+      (λ table. ap (λ (to : Option Node). has_fault answer && goes_to c to) e.2) other e.3
+  down_carried sent whole (events.Create node table) other answer e = absurd e
   down_carried sent whole (events.Client d gate tables) other answer e = ap (λ (x : Event). goes_down c whole x answer) (sym e)
   down_carried sent whole (events.Work (nodes.Gate n)) other answer e = absurd e
   down_carried sent whole (events.WorkAll (nodes.Gate n)) other answer e = absurd e
@@ -99,7 +104,9 @@ module _ (c t : ℕ) where
 
   phase_carried : (sent whole : List Node) (event other : Event) (answer : Option Answer) (before : Bool) → IsEventCarried sent whole event other
       → phase_by c t event answer before ≡ phase_by c t other answer before
-  phase_carried sent whole (events.Deliver k) other answer before e = ap (λ (x : Event). phase_by c t x answer before) (sym e.4)
+  phase_carried sent whole (events.Deliver k) other answer before e =
+      by_brought (λ (x : Event). phase_by c t (events.Deliver k) answer before ≡ phase_by c t x answer before) whole e.0 (λ n at. refl) (λ table. refl) (λ table. refl) other e.3
+  phase_carried sent whole (events.Create node table) other answer before e = absurd e
   phase_carried sent whole (events.Client d gate tables) other answer before e = ap (λ (x : Event). phase_by c t x answer before) (sym e)
   phase_carried sent whole (events.Work (nodes.Gate n)) other answer before e = absurd e
   phase_carried sent whole (events.WorkAll (nodes.Gate n)) other answer before e = absurd e
@@ -195,7 +202,8 @@ module _ (sent whole : List Node) (q r : Quiet) (a : IsLouder sent whole q r) wh
   -- ---- both
 
   stores_carried : (event other : Event) → IsEventCarried sent whole event other → stores_after q event ≡ stores_after r other
-  stores_carried (events.Deliver k) other e = b.stores ∙ ap (stores_after r) (sym e.4)
+  stores_carried (events.Deliver k) other e = by_brought (λ (x : Event). q.stores ≡ stores_after r x) whole e.0 (λ n at. b.stores) (λ table. b.stores) (λ table. b.stores) other e.3
+  stores_carried (events.Create node table) other e = absurd e
   stores_carried (events.Client c gate tables) other e = b.stores ∙ ap (stores_after r) (sym e)
   stores_carried (events.Work (nodes.Gate n)) other e = absurd e
   stores_carried (events.WorkAll (nodes.Gate n)) other e = absurd e
@@ -204,7 +212,8 @@ module _ (sent whole : List Node) (q r : Quiet) (a : IsLouder sent whole q r) wh
   stores_carried event other e = stores_same sent whole q r b event ∙ ap (stores_after r) (sym e)
 
   held_carried : (event other : Event) (answer : Option Answer) → IsEventCarried sent whole event other → held_after q event answer ≡ held_after r other answer
-  held_carried (events.Deliver k) other answer e = b.held ∙ ap (λ (x : Event). held_after r x answer) (sym e.4)
+  held_carried (events.Deliver k) other answer e = by_brought (λ (x : Event). q.held ≡ held_after r x answer) whole e.0 (λ n at. b.held) (λ table. b.held) (λ table. b.held) other e.3
+  held_carried (events.Create node table) other answer e = absurd e
   held_carried (events.Client c gate tables) other answer e = b.held ∙ ap (λ (x : Event). held_after r x answer) (sym e)
   held_carried (events.Work (nodes.Gate n)) other answer e = absurd e
   held_carried (events.WorkAll (nodes.Gate n)) other answer e = absurd e
@@ -214,7 +223,9 @@ module _ (sent whole : List Node) (q r : Quiet) (a : IsLouder sent whole q r) wh
 
   loud_carried : (event other : Event) (answer : Option Answer) (x : Node) → IsEventCarried sent whole event other → Among (loud_after r other answer) x → Among (loud_after q event answer) x
   loud_carried (events.Deliver k) other answer x e m =
-      deliver_comes sent whole q r b k e.1 x (e.5 ∙ sym e.3) (subst (λ (y : Event). Among (loud_after r y answer) x) e.4 m)
+      by_brought (λ (y : Event). Among (loud_after r y answer) x → Among (loud_after q (events.Deliver k) answer) x) whole e.0 (λ n at. deliver_comes sent whole q r b k n x (at ∙ sym e.2))
+      (λ table more. more_comes sent whole q r b (slice_get q.sent k) x (b.loud x more)) (λ table more. more_comes sent whole q r b (slice_get q.sent k) x (b.loud x more)) other e.3 m
+  loud_carried (events.Create node table) other answer x e m = absurd e
   loud_carried (events.Client c gate tables) other answer x e m = b.loud x (subst (λ (y : Event). Among (loud_after r y answer) x) e m)
   loud_carried (events.Work (nodes.Gate n)) other answer x e m = absurd e
   loud_carried (events.WorkAll (nodes.Gate n)) other answer x e m = absurd e
@@ -240,8 +251,10 @@ module _ (sent whole : List Node) (q r : Quiet) (a : IsLouder sent whole q r) wh
 
   gates_carried : (event other : Event) (answer : Option Answer) → IsEventCarried sent whole event other → NoGates (loud_after r other answer)
   gates_carried (events.Deliver k) other answer e =
-      subst (λ (x : Event). NoGates (loud_after r x answer)) (sym e.4)
-      (subst (λ (o : Option Node). NoGates (comes_to r o)) (sym (ap (λ (ns : List Node). slice_get ns e.1) b.whole_is ∙ e.5)) (comes_no_gates e.0 e.2))
+      by_brought (λ (x : Event). NoGates (loud_after r x answer)) whole e.0
+      (λ n at. subst (λ (o : Option Node). NoGates (comes_to r o)) (sym (ap (λ (ns : List Node). slice_get ns n) b.whole_is ∙ at)) (comes_no_gates e.0 e.1)) (λ table. a.gates) (λ table. a.gates)
+      other e.3
+  gates_carried (events.Create node table) other answer e = absurd e
   gates_carried (events.Client c gate tables) other answer e = subst (λ (x : Event). NoGates (loud_after r x answer)) (sym e) a.gates
   gates_carried (events.Work (nodes.Gate n)) other answer e = absurd e
   gates_carried (events.WorkAll (nodes.Gate n)) other answer e = absurd e
@@ -326,6 +339,7 @@ module _ (sent whole : List Node) (q r : Quiet) (a : IsLouder sent whole q r) wh
   listed_carried : (schemas : ℕ → Option Schema) (s : Said) (event other : Event) (answer : Option Answer) → IsEventCarried sent whole event other
       → IsListed schemas s r other answer → IsListed schemas s q event answer
   listed_carried schemas s (events.Deliver k) other answer e m = tt
+  listed_carried schemas s (events.Create node table) other answer e m = absurd e
   listed_carried schemas s (events.Client c gate tables) other answer e m = tt
   listed_carried schemas s (events.Work (nodes.Gate n)) other answer e m = absurd e
   listed_carried schemas s (events.WorkAll (nodes.Gate n)) other answer e m = absurd e

@@ -1,6 +1,6 @@
 -- Turns that are carried are as sound.
-use Rattle.std.proofs.Common.{◌≡◌, inl, inr, ℕ, Bool, true, false, List, [], ◌∷◌, ◌++◌, Option, None, refl, sym, ◌∙◌, ap, subst, true≢false, append-nil}
-use Rattle.std.specs.Prelude.{map, MatchBool}
+use Rattle.std.proofs.Common.{◌≡◌, inl, inr, ℕ, Bool, true, false, List, [], ◌∷◌, ◌++◌, Option, Some, None, refl, sym, ◌∙◌, ap, subst, true≢false, append-nil}
+use Rattle.std.specs.Prelude.{map, slice_get, MatchBool}
 use Rattle.std.specs.List.{AllByRecursion}
 use Rattle.std.proofs.Math.Path.{fun_ext}
 use Rattle.stab_base.specs.declared.node.Node.{Node}
@@ -17,7 +17,7 @@ use Rattle.world_tables.specs.Turns.{Turn}
 use Rattle.world_tables.specs.World.{is_fault}
 use Rattle.world_tables.specs.Sound.{declared_by, scheme_for, AreSaid, IsForm, IsCounted, IsQuiet, IsAnswer, is_declaration, IsAnswered, IsTurn, InSight, IsSoundFrom, IsSound}
 use Rattle.world_tables.specs.Quiet.{sent_in, schema_by, schema_for}
-use Rattle.gated_laws.specs.Carried.{is_sent, AreLinesCarried, IsEventCarried, IsTurnCarried, IsLoneAnswer, IsOne, IsLone, IsLinkTurn, AreLinkTurns, AreCarriedFrom, AreCarried}
+use Rattle.gated_laws.specs.Carried.{is_sent, AreLinesCarried, IsBrought, IsEventCarried, IsTurnCarried, IsLoneAnswer, IsAskingAnswer, IsOne, IsLone, IsLinkTurn, AreLinkTurns, AreCarriedFrom, AreCarried}
 use Rattle.gated_laws.proofs.CarriedLines.{hear_carried, said_carried, answered_carried, answered_too, none_carried}
 
 -- ---- what a turn makes of the next, where the turns are put together by a part for each
@@ -42,6 +42,16 @@ module _ (P : List Node → List Node → List Turn → List Turn → Type 0) (e
       (by_links links sent whole (turn ∷ turns) rest are
       (subst (P sent whole (turn ∷ turns)) (sym x.2) (both sent whole turn x.0 turns x.1 x.3 (by_turns turns (sent ++ sent_in turn.lines) (whole ++ sent_in x.0.lines) x.1 x.4))))
 
+-- ---- what is brought
+
+-- a part, or a table that is made or dropped
+pub by_brought : (P : Event → Type 0) (whole : List Node) (to : Node) → ((number : ℕ) → slice_get whole number ≡ Some to → P (events.Deliver number))
+    → ((table : ℕ) → P (events.Create to table)) → ((table : ℕ) → P (events.Drop to table)) → (other : Event) → IsBrought whole to other → P other
+by_brought P whole to parts creates drops (events.Deliver number) is = parts number is
+by_brought P whole to parts creates drops (events.Create node table) is = subst (λ (n : Node). P (events.Create n table)) (sym is) (creates table)
+by_brought P whole to parts creates drops (events.Drop node table) is = subst (λ (n : Node). P (events.Drop n table)) (sym is) (drops table)
+by_brought P whole to parts creates drops other is = absurd is
+
 -- ---- declarations
 
 abbrev pub events_of : List Turn → List Event
@@ -61,7 +71,11 @@ lone_no_table other lines is = tt
 module _ {X : Type 0} (by : Event → ℕ → X → X) (f : List Event → ℕ → X) (step : (event : Event) (more : List Event) (table : ℕ) → f (event ∷ more) table ≡ by event table (f more table))
     (kept : (event : Event) → IsNoTable event → (table : ℕ) (x : X) → by event table x ≡ x) where
   both_kept : (sent whole : List Node) (event other : Event) (table : ℕ) (x : X) → IsEventCarried sent whole event other → by event table x ≡ by other table x
-  both_kept sent whole (events.Deliver packet) other table x is = kept (events.Deliver packet) tt table x ∙ (sym (kept (events.Deliver is.1) tt table x) ∙ ap (λ (e : Event). by e table x) (sym is.4))
+  both_kept sent whole (events.Deliver packet) other table x is =
+      kept (events.Deliver packet) tt table x
+      ∙ sym (by_brought (λ (e : Event). by e table x ≡ x) whole is.0 (λ number at. kept (events.Deliver number) tt table x) (λ made. kept (events.Create is.0 made) tt table x)
+      (λ gone. kept (events.Drop is.0 gone) tt table x) other is.3)
+  both_kept sent whole (events.Create node made) other table x is = absurd is
   both_kept sent whole (events.Client c gate tables) other table x is =
       kept (events.Client c gate tables) tt table x ∙ (sym (kept (events.Client c None tables) tt table x) ∙ ap (λ (e : Event). by e table x) (sym is))
   both_kept sent whole (events.Work (nodes.Gate number)) other table x is = absurd is
@@ -127,6 +141,20 @@ lone_form event facts.Done is done = done
 lone_form event (facts.Refuses refusal) is done = tt
 lone_form event other is done = absurd is
 
+no_fault_asking : (answer : Answer) → IsAskingAnswer answer → is_fault answer ≡ false
+no_fault_asking facts.Done is = refl
+no_fault_asking (facts.Refuses facts.NoTable) is = refl
+no_fault_asking (facts.Refuses (facts.NodeDown node)) is = refl
+no_fault_asking (facts.Refuses facts.Offline) is = refl
+no_fault_asking (facts.Refuses (facts.Busy with)) is = refl
+no_fault_asking (facts.Refuses other) is = absurd is
+no_fault_asking other is = absurd is
+
+asking_form : (event : Event) (answer : Answer) → IsAskingAnswer answer → IsForm event facts.Done → IsForm event answer
+asking_form event facts.Done is done = done
+asking_form event (facts.Refuses refusal) is done = tt
+asking_form event other is done = absurd is
+
 -- an answer alone
 one_answer : (event : Event) (answer : Answer) (lines : List Line) → IsOne answer lines → is_declaration event ≡ false → is_fault answer ≡ false → IsForm event answer → IsCounted event answer []
     → IsQuiet event [] → ((g : ℕ → Scheme) (s : Said) → IsAnswer g s event answer []) → IsOnlyAnswer event lines
@@ -157,6 +185,30 @@ lone_only (events.Link c up) lines a = record {
   plain = refl;
   fault = no_fault a.answer a.is;
   form = lone_form (events.Link c up) a.answer a.is tt;
+  counts = refl;
+  quiet = tt;
+  is = λ g s. tt;
+}
+lone_only (events.Create node table) lines a = record {
+  answer = a.answer;
+  told = a.told;
+  sent = a.sent;
+  lines_are = a.lines_are;
+  plain = refl;
+  fault = no_fault_asking a.answer a.is;
+  form = asking_form (events.Create node table) a.answer a.is tt;
+  counts = refl;
+  quiet = tt;
+  is = λ g s. tt;
+}
+lone_only (events.Drop node table) lines a = record {
+  answer = a.answer;
+  told = a.told;
+  sent = a.sent;
+  lines_are = a.lines_are;
+  plain = refl;
+  fault = no_fault_asking a.answer a.is;
+  form = asking_form (events.Drop node table) a.answer a.is tt;
   counts = refl;
   quiet = tt;
   is = λ g s. tt;
@@ -203,9 +255,25 @@ module _ (g : ℕ → Scheme) (s : Said) where
   deliver_form k n facts.Done f = tt
   deliver_form k n other f = f
 
-  deliver_too : (k n : ℕ) (lines whole : List Line) → AreLinesCarried lines whole → IsAnswered g s (events.Deliver n) whole → IsAnswered g s (events.Deliver k) lines
-  deliver_too k n lines whole is a =
-      answered_carried g s (events.Deliver k) (events.Deliver n) (deliver_form k n) (λ answer counted c. c) (λ told some f q. tt) (λ answer counted q. tt) lines whole is a
+  create_form : (k : ℕ) (node : Node) (table : ℕ) (answer : Answer) → IsForm (events.Create node table) answer → IsForm (events.Deliver k) answer
+  create_form k node table (facts.Refuses refusal) f = tt
+  create_form k node table facts.Done f = tt
+  create_form k node table other f = f
+
+  drop_form : (k : ℕ) (node : Node) (table : ℕ) (answer : Answer) → IsForm (events.Drop node table) answer → IsForm (events.Deliver k) answer
+  drop_form k node table (facts.Refuses refusal) f = tt
+  drop_form k node table facts.Done f = tt
+  drop_form k node table other f = f
+
+  -- what is brought
+  deliver_too : (k : ℕ) (whole_to : List Node) (to : Node) (lines whole : List Line) → AreLinesCarried lines whole → (other : Event) → IsBrought whole_to to other
+      → IsTurn g s (record { event = other; lines = whole }) → IsAnswered g s (events.Deliver k) lines
+  deliver_too k whole_to to lines whole is =
+      by_brought (λ (x : Event). IsTurn g s (record { event = x; lines = whole }) → IsAnswered g s (events.Deliver k) lines) whole_to to
+      (λ n at a. answered_carried g s (events.Deliver k) (events.Deliver n) (deliver_form k n) (λ answer counted c. c) (λ told some f q. tt) (λ answer counted q. tt) lines whole is a)
+      (λ table a.
+      answered_carried g s (events.Deliver k) (events.Create to table) (create_form k to table) (λ answer counted c. c) (λ told some f q. tt) (λ answer counted q. tt) lines whole is a)
+      (λ table a. answered_carried g s (events.Deliver k) (events.Drop to table) (drop_form k to table) (λ answer counted c. c) (λ told some f q. tt) (λ answer counted q. tt) lines whole is a)
 
   same_turn : (b : Bool) (event : Event) (lines whole : List Line) → AreLinesCarried lines whole
       → MatchBool b (whole ≡ []) (IsAnswered g s event whole) → MatchBool b (lines ≡ []) (IsAnswered g s event lines)
@@ -214,8 +282,8 @@ module _ (g : ℕ → Scheme) (s : Said) where
 
   turn_carried : (sent whole : List Node) (event other : Event) (lines others : List Line) → IsEventCarried sent whole event other → AreLinesCarried lines others
       → IsTurn g s (record { event = other; lines = others }) → IsTurn g s (record { event = event; lines = lines })
-  turn_carried sent whole (events.Deliver k) other lines others e is a =
-      deliver_too k e.1 lines others is (subst (λ (x : Event). IsTurn g s (record { event = x; lines = others })) e.4 a)
+  turn_carried sent whole (events.Deliver k) other lines others e is a = deliver_too k whole e.0 lines others is other e.3 a
+  turn_carried sent whole (events.Create node table) other lines others e is a = absurd e
   turn_carried sent whole (events.Client c gate tables) other lines others e is a =
       none_carried lines others is (subst (λ (x : Event). IsTurn g s (record { event = x; lines = others })) e a)
   turn_carried sent whole (events.Work (nodes.Gate number)) other lines others e is a = absurd e

@@ -11,8 +11,14 @@ use Rattle.table_model.specs.declared.event.Event.{Event}
 use Rattle.table_model.specs.declared.event.Event.TheVariants as events
 use Rattle.table_model.specs.declared.message.Message.{Message}
 use Rattle.table_model.specs.declared.message.Message.TheVariants as kinds
+use Rattle.table_model.specs.declared.message.CreateTable.{CreateTable}
+use Rattle.table_model.specs.declared.message.DropTable.{DropTable}
 use Rattle.table_model.specs.declared.message.OperationResponse.{OperationResponse}
 use Rattle.table_model.specs.declared.message.RestoreClientSubscriptions.{RestoreClientSubscriptions}
+use Rattle.table_model.specs.declared.table_state.TableState.{TableState}
+use Rattle.table_model.specs.declared.table_state.TableState.TheVariants as states
+use Rattle.row_value.specs.declared.schema.Schema.{Schema}
+use Rattle.step_tables.specs.StoreMoves.{StoreTask}
 use Rattle.step_tables.specs.Facts.{Answer, Refusal, Line, AnswerLine}
 use Rattle.step_tables.specs.Facts as facts
 use Rattle.step_tables.specs.Members.{Among}
@@ -21,7 +27,7 @@ use Rattle.step_tables.specs.Messages as messages
 use Rattle.step_tables.specs.ClientMoves.{TableDisk, Client, ClientTask, table_at, seen}
 use Rattle.step_tables.proofs.Lists.{among_get, among_none, among_cons}
 use Rattle.world_tables.specs.Sound.{is_declaration}
-use Rattle.world_tables.specs.World.{Lucks, owner_of, client_at, is_client_down, is_cut, hosted_at, busy_table, first_luck}
+use Rattle.world_tables.specs.World.{Lucks, Hosted, owner_of, client_at, schema_at, is_client_down, is_cut, hosted_at, hosted_by, busy_live, first_luck}
 use Rattle.fair_laws.specs.Reached.{IsBuilt}
 use Rattle.part_tables.specs.Parts.{Part, Asks, Responds, Pulls, Answers, BringsUp, BringsDown, AsksTorn, AnswersTorn}
 use Rattle.message_parts.specs.Parts.{part_of}
@@ -30,20 +36,22 @@ use Rattle.part_tables.specs.ClientParts as at_client
 use Rattle.wire_tables.specs.Wire.{PartPacket, Wire, WireStep, part_table, arriving_at, with_arriving, waits, by_table, untaken, by_client, brought, delivered, wire_step}
 use Rattle.wire_tables.specs.Wire as wires
 use Rattle.wire_laws.proofs.Places.{place_of}
+use Rattle.gate_tables.specs.declared.timer.Asked.{Asked}
 use Rattle.gate_tables.specs.Gate.{Gateway, Running, Sends}
 use Rattle.gate_tables.specs.Gate as gate
 use Rattle.gated_tables.specs.Devices.{Device, part_client}
 use Rattle.gated_tables.specs.Net.{Sent, Net, NetStep, gate_at, device_at, has_none, still, refused, unless_down, is_node_down, sending, cutting, cut_by, with_device, restarted, asks_again}
-use Rattle.gated_tables.specs.Net.{carried_on}
+use Rattle.gated_tables.specs.Net.{Asker, carried_on, of_session, says_made, says_gone, answer_heard, is_linked, unless_busy, answer_from, answering, asked_by, is_schema, creates, drops, to_create, to_drop, turned_away}
+use Rattle.gated_tables.specs.Net.{part_taken, is_shut, way_to, asks_for, unless_away, asks_create, asks_drop, to_ask, is_open, to_give, if_read, to_end}
 use Rattle.gated_tables.specs.Net.{client_taken, asks_session, answered, if_idle, agenda_in, answer_taken, to_client, restoring, busy_with, restored, to_store, directory_of, with_running}
 use Rattle.gated_tables.specs.Net.{sent_of, gate_done, to_gate}
 use Rattle.gated_tables.specs.Net.{delivered_to, relinked, linked, gate_crashed, gate_started, client_started, net_step}
 use Rattle.gated_tables.specs.Net as net
-use Rattle.gated_laws.specs.Carried.{IsNoGate, IsEventCarried, IsLoneAnswer, AreLone, IsLone}
+use Rattle.gated_laws.specs.Carried.{IsNoGate, IsEventCarried, IsLoneAnswer, IsDoneAnswer, IsAskingRefusal, IsAskingAnswer, AreAnswered, AreLone, IsLone}
 use Rattle.gated_laws.proofs.HandedOn.{way_of, AreHandedOn, handed_on}
 use Rattle.gated_laws.proofs.NetLines.{to_of, wires_to}
 use Rattle.gated_laws.proofs.KeptWires.{ComesFrom, IsPartAddressed, parts_go, KeepsWire, step_keeps, IsLinked, none_linked, cut_linked}
-use Rattle.gated_laws.proofs.KeptNets.{IsGate, IsSentAs, AreParts, IsKeptNet, no_part, none_asked, IsLinkedNet, gates_linked, cut_net, device_net, Carries, then_carries, carries_more, shares, stays_alone}
+use Rattle.gated_laws.proofs.KeptNets.{IsGate, IsSentAs, AreParts, IsKeptNet, no_part, none_asked, IsLinkedNet, gates_linked, cut_net, device_net, Carries, then_carries, carries_more, shares_asked, shares, stays_alone}
 use Rattle.gated_laws.proofs.KeptNets.{answers_alone, unless_node_down, itself}
 use Rattle.gated_laws.proofs.KeptNets.{sends_alone}
 
@@ -109,6 +117,23 @@ module _ (v : Wire) (c : ℕ) (part : Part) (from other : Node) (lucks : Lucks) 
 alone : (answer : Answer) → IsLoneAnswer answer → AreLone (AnswerLine answer ∷ [])
 alone answer is = record { answer = answer; is = is; told = []; sent = tt; lines_are = refl }
 
+done_lone : (answer : Answer) → IsDoneAnswer answer → IsLoneAnswer answer
+done_lone facts.Done is = tt
+done_lone other is = absurd is
+
+done_asks : (answer : Answer) → IsDoneAnswer answer → IsAskingAnswer answer
+done_asks facts.Done is = tt
+done_asks other is = absurd is
+
+lone_done : (lines : List Line) → AreAnswered IsDoneAnswer lines → AreLone lines
+lone_done lines a = record { answer = a.answer; is = done_lone a.answer a.is; told = a.told; sent = a.sent; lines_are = a.lines_are }
+
+asking_done : (lines : List Line) → AreAnswered IsDoneAnswer lines → AreAnswered IsAskingAnswer lines
+asking_done lines a = record { answer = a.answer; is = done_asks a.answer a.is; told = a.told; sent = a.sent; lines_are = a.lines_are }
+
+asks_alone : (answer : Answer) → IsAskingAnswer answer → AreAnswered IsAskingAnswer (AnswerLine answer ∷ [])
+asks_alone answer is = record { answer = answer; is = is; told = []; sent = tt; lines_are = refl }
+
 module _ (n : Net) (k : IsKeptNet n) where
   -- ---- deliveries of parts
 
@@ -130,10 +155,8 @@ module _ (n : Net) (k : IsKeptNet n) where
         subst (λ (x : WireStep). Carries 0 n (events.Deliver number) (carried_on n x)) is_delivered
         (shares n k v before (events.Deliver number) (events.Deliver place.0) lucks tt (
           to,
-          place.0,
           party,
           to_there number p at ∙ ap (λ (x : Node). Some x) here,
-          refl,
           slice_get-map (λ (x : PartPacket). x.to) v.packets place.0 ∙ (ap (option_map (λ (x : PartPacket). x.to)) place.1 ∙ ap (λ (x : Node). Some x) same),
         ) s.kept s.clients)
 
@@ -203,13 +226,32 @@ module _ (n : Net) (k : IsKeptNet n) where
         first : Carries 0 n (events.Deliver number) (carried_on n s)
         first = client_carries (cutting c d.linked n.wire) (cut_linked n.wire k.wire c d.linked (k.devices c d some) up) c here
 
+  -- ---- a table that is made or dropped at the node to which a message comes
+
+  module _ (number : ℕ) (p : Sent) (at : slice_get n.sent number ≡ Some p) (to : Node) (party : IsNoGate to) (here : p.to ≡ to) (askers : List (ℕ × Asker)) (lucks : Lucks) where
+    abbrev asked : Net
+    asked = record n { askers = askers }
+
+    comes : slice_get (to_of n.sent) number ≡ Some to
+    comes = to_there number p at ∙ ap (λ (x : Node). Some x) here
+
+    create_carries : (table : ℕ) → Carries 1 n (events.Deliver number) (carried_on asked (wire_step n.wire (events.Create to table) lucks))
+    create_carries table =
+        let s : KeepsWire n.wire (wire_step n.wire (events.Create to table) lucks).wire = step_keeps n.wire k.wire (events.Create to table) refl tt lucks in
+        carries_more n (events.Deliver number) _ (shares_asked n k askers n.wire (none_linked n.wire k.wire) (events.Deliver number) (events.Create to table) lucks tt (to, party, comes, refl) s.kept s.clients)
+
+    drop_carries : (table : ℕ) → Carries 1 n (events.Deliver number) (carried_on asked (wire_step n.wire (events.Drop to table) lucks))
+    drop_carries table =
+        let s : KeepsWire n.wire (wire_step n.wire (events.Drop to table) lucks).wire = step_keeps n.wire k.wire (events.Drop to table) refl tt lucks in
+        carries_more n (events.Deliver number) _ (shares_asked n k askers n.wire (none_linked n.wire k.wire) (events.Deliver number) (events.Drop to table) lucks tt (to, party, comes, refl) s.kept s.clients)
+
   -- ---- deliveries of what is no part
 
   -- a client asks for a session
   no_parts : (v : Wire) (c : ℕ) (o : Option Device) → AreParts v (asks_again c o)
   no_parts v c o p a part is = no_part (part_of p.message) part (none_asked n c o p a) is
 
-  session_asked : (event : Event) (c : ℕ) (d : Device) (later : Net) → ((ls : List Line) → AreLone ls → IsLone event ls) → IsLinkedNet n later → Carries 1 n event (asks_session later c d)
+  session_asked : (event : Event) (c : ℕ) (d : Device) (later : Net) → ((ls : List Line) → AreAnswered IsDoneAnswer ls → IsLone event ls) → IsLinkedNet n later → Carries 1 n event (asks_session later c d)
   session_asked event c d later lone l = sends_alone n k event later (asks_again c (Some d)) lone l (no_parts later.wire c (Some d))
 
   module _ (number : ℕ) (lucks : Lucks) where
@@ -230,7 +272,7 @@ module _ (n : Net) (k : IsKeptNet n) where
 
         go : (a b : Bool) → Carries 1 n deliver (if a then asks_session (with_device c (record d { token = None }) n) c d
             else (if b then still (with_device c (record d { token = Some m.token }) n) facts.Done else still n facts.Done))
-        go true b = session_asked deliver c d (with_device c none n) (λ ls are. are) (device_net n k c none there)
+        go true b = session_asked deliver c d (with_device c none n) lone_done (device_net n k c none there)
         go false true = stays_alone n k deliver (with_device c some n) facts.Done (alone facts.Done tt) (device_net n k c some there)
         go false false = done_alone
 
@@ -239,17 +281,31 @@ module _ (n : Net) (k : IsKeptNet n) where
     idle_carries (Some []) x c = c
     idle_carries (Some (task ∷ tasks)) x c = answers_alone n k deliver (facts.Refuses (facts.Busy lucks.shape.plan)) (alone (facts.Refuses (facts.Busy lucks.shape.plan)) tt)
 
-    answer_carries : (c : ℕ) (m : OperationResponse) (o : Option Device) → device_at n c ≡ o → Carries 1 n deliver (answer_taken n c m lucks o)
-    answer_carries c m None none = done_alone
-    answer_carries c m (Some d) some = go d.linked
-      where
-        go : (b : Bool) → Carries 1 n deliver (if b then if_idle n lucks (agenda_in (client_at n.wire.world c)) (answered n c m d) else refused n facts.Offline)
-        go true = idle_carries (agenda_in (client_at n.wire.world c)) (answered n c m d) (answered_carries c m d (k.devices c d some))
-        go false = answers_alone n k deliver (facts.Refuses facts.Offline) (alone (facts.Refuses facts.Offline) tt)
+    session_carries : (c : ℕ) (m : OperationResponse) (o : Option Device) → device_at n c ≡ o → Carries 1 n deliver (of_session n c m o)
+    session_carries c m None none = done_alone
+    session_carries c m (Some d) some = answered_carries c m d (k.devices c d some)
 
-    message_to_client : (c : ℕ) (p : Sent) (m : Message) → Carries 1 n deliver (to_client n c (record p { message = m }) lucks None)
-    message_to_client c p (kinds.OperationResponse m) = answer_carries c m (device_at n c) refl
-    message_to_client c p other = done_alone
+    module _ (p : Sent) (at : slice_get n.sent number ≡ Some p) where
+      answer_carries : (c : ℕ) → p.to ≡ nodes.Client c → (m : OperationResponse) (o : Option Device) → device_at n c ≡ o → Carries 1 n deliver (answer_taken n c m lucks o)
+      answer_carries c here m o is = go (is_linked n c o)
+        where
+          agenda : Option (List ClientTask)
+          agenda = agenda_in (client_at n.wire.world c)
+
+          heard : (gone made : Bool) → Carries 1 n deliver (if gone then carried_on n (wire_step n.wire (events.Drop (nodes.Client c) m.table) lucks)
+              else (if made then carried_on n (wire_step n.wire (events.Create (nodes.Client c) m.table) lucks)
+              else if_idle n lucks agenda (of_session n c m o)))
+          heard true made = drop_carries number p at (nodes.Client c) tt here n.askers lucks m.table
+          heard false true = create_carries number p at (nodes.Client c) tt here n.askers lucks m.table
+          heard false false = idle_carries agenda (of_session n c m o) (session_carries c m o is)
+
+          go : (b : Bool) → Carries 1 n deliver (if b then answer_heard n c m lucks o else refused n facts.Offline)
+          go true = heard (says_gone m) (says_made m)
+          go false = answers_alone n k deliver (facts.Refuses facts.Offline) (alone (facts.Refuses facts.Offline) tt)
+
+      message_to_client : (c : ℕ) → p.to ≡ nodes.Client c → (m : Message) → Carries 1 n deliver (to_client n c (record p { message = m }) lucks None)
+      message_to_client c here (kinds.OperationResponse m) = answer_carries c here m (device_at n c) refl
+      message_to_client c here other = done_alone
 
     restored_carries : (m : ℕ) (p : Sent) (r : RestoreClientSubscriptions) (o : Option ℕ) → Carries 1 n deliver (restored n m p r o)
     restored_carries m p r None = go r.reply
@@ -259,13 +315,72 @@ module _ (n : Net) (k : IsKeptNet n) where
 
         go : (b : Bool) → Carries 1 n deliver (if b then still n facts.Done else sending n (restoring m p r ∷ []))
         go true = done_alone
-        go false = sends_alone n k deliver n (restoring m p r ∷ []) (λ ls are. are) (itself n k) none
+        go false = sends_alone n k deliver n (restoring m p r ∷ []) lone_done (itself n k) none
     restored_carries m p r (Some table) =
         let busy : Answer = facts.Refuses (facts.Busy (busy_with (hosted_at n.wire.world table))) in answers_alone n k deliver busy (alone busy tt)
 
-    message_to_store : (m : ℕ) (p : Sent) (msg : Message) → Carries 1 n deliver (to_store n m (record p { message = msg }) lucks None)
-    message_to_store m p (kinds.RestoreClientSubscriptions r) = restored_carries m p r (busy_table n.wire.world m)
-    message_to_store m p other = done_alone
+    -- an answer of the table's Store
+    answering_carries : (table : ℕ) (a : Asker) (kind status : ℕ) → Carries 1 n deliver (answering n table a kind status)
+    answering_carries table a kind status = sends_alone n k deliver n (answer_from n.wire.world table a kind status ∷ []) lone_done (itself n k) none
+      where
+        none : AreParts n.wire (answer_from n.wire.world table a kind status ∷ [])
+        none q b part is = no_part (part_of q.message) part
+            (⊎_elim (λ e. ap (λ (x : Sent). part_of x.message) (sym e)) (λ more. absurd (among_none q more)) (among_cons (answer_from n.wire.world table a kind status) [] q b)) is
+
+    busy_carries : (hosted : Hosted) (x : NetStep) → Carries 1 n deliver x → Carries 1 n deliver (unless_busy n hosted x)
+    busy_carries hosted x c = go hosted.store.agenda
+      where
+        busy : Answer
+        busy = facts.Refuses (facts.Busy (busy_with (Some hosted)))
+
+        go : (o : Option (List StoreTask)) → Carries 1 n deliver (unless_busy n (record hosted { store = record (hosted.store) { agenda = o } }) x)
+        go None = c
+        go (Some []) = c
+        go (Some (task ∷ tasks)) = let with : Answer = facts.Refuses (facts.Busy (busy_with (Some (record hosted { store = record (hosted.store) { agenda = Some (task ∷ tasks) } })))) in answers_alone n k deliver with (alone with tt)
+
+    turned_carries : (p : Sent) (o : Option Asked) → Carries 1 n deliver (turned_away n p o)
+    turned_carries p None = done_alone
+    turned_carries p (Some a) = answering_carries a.table (record { client = a.client; to = p.from }) a.kind 18
+
+    module _ (p : Sent) (at : slice_get n.sent number ≡ Some p) (m : ℕ) (here : p.to ≡ nodes.Store m) where
+      creates_carries : (a : Asker) (x : CreateTable) (state : TableState) → Carries 1 n deliver (creates n m a x lucks state)
+      creates_carries a x states.Draft = go (is_schema x.schema (schema_at n.wire.world x.table))
+        where
+          go : (b : Bool) → Carries 1 n deliver (if b then carried_on (asked_by x.table a n) (wire_step n.wire (events.Create (nodes.Store m) x.table) lucks) else answering n x.table a 2 18)
+          go true = create_carries number p at (nodes.Store m) tt here (asked_by x.table a n).askers lucks x.table
+          go false = answering_carries x.table a 2 18
+      creates_carries a x states.Live = answering_carries x.table a 2 (if is_schema x.schema (schema_at n.wire.world x.table) then 0 else 18)
+      creates_carries a x states.Dropped = answering_carries x.table a 2 18
+
+      drops_carries : (a : Asker) (x : DropTable) (state : TableState) → Carries 1 n deliver (drops n m a x lucks state)
+      drops_carries a x states.Draft = answering_carries x.table a 3 18
+      drops_carries a x states.Live = drop_carries number p at (nodes.Store m) tt here (asked_by x.table a n).askers lucks x.table
+      drops_carries a x states.Dropped = answering_carries x.table a 3 18
+
+      to_create_carries : (x : CreateTable) (o : Option Hosted) → Carries 1 n deliver (to_create n m p x lucks o)
+      to_create_carries x None = done_alone
+      to_create_carries x (Some hosted) =
+          let a : Asker = record { client = x.client; to = p.from } in
+          busy_carries hosted (creates n m a x lucks hosted.store.disk.state) (creates_carries a x hosted.store.disk.state)
+
+      to_drop_carries : (x : DropTable) (o : Option Hosted) → Carries 1 n deliver (to_drop n m p x lucks o)
+      to_drop_carries x None = done_alone
+      to_drop_carries x (Some hosted) =
+          let a : Asker = record { client = x.client; to = p.from } in
+          busy_carries hosted (drops n m a x lucks hosted.store.disk.state) (drops_carries a x hosted.store.disk.state)
+
+      message_to_store : (msg : Message) → Carries 1 n deliver (to_store n m (record p { message = msg }) lucks None)
+      message_to_store (kinds.CreateTable x) = to_create_carries x (hosted_by n.wire.world m x.table)
+      message_to_store (kinds.DropTable x) = to_drop_carries x (hosted_by n.wire.world m x.table)
+      message_to_store (kinds.RestoreClientSubscriptions r) = restored_carries m p r (busy_live n.wire.world m)
+      message_to_store other = done_alone
+
+      part_to_store : (part : Part) → part_of p.message ≡ Some part → Carries 1 n deliver (to_store n m p lucks (Some part))
+      part_to_store part is = go (is_shut (hosted_by n.wire.world m (part_table part)))
+        where
+          go : (b : Bool) → Carries 1 n deliver (if b then turned_away n p (gate.asked p.message) else part_taken n m p lucks part)
+          go true = turned_carries p (gate.asked p.message)
+          go false = store_carries number p at part is lucks m here
 
     -- to a gateway, which hands on what came
     handed_sent : (g : ℕ) (p : Sent) → Among n.sent p → (sends : Sends) → AreHandedOn n.wire.world p.message sends → AreParts n.wire (map (sent_of g) sends)
@@ -289,7 +404,7 @@ module _ (n : Net) (k : IsKeptNet n) where
         → Carries 1 n deliver (gate_done n g starts (gate.taken (directory_of n.wire.world) g starts running p.from p.message))
     running_carries g starts p a running =
         let d : gate.Done = gate.taken (directory_of n.wire.world) g starts running p.from p.message in
-        sends_alone n k deliver (with_running g starts d.running n) (map (sent_of g) d.sends) (λ ls are. are) (gates_linked n (with_running g starts d.running n).gates k)
+        sends_alone n k deliver (with_running g starts d.running n) (map (sent_of g) d.sends) lone_done (gates_linked n (with_running g starts d.running n).gates k)
         (handed_sent g p a d.sends (handed_on n.wire.world g starts running p.from p.message))
 
     gate_carries : (g : ℕ) (p : Sent) → Among n.sent p → (o : Option Gateway) → Carries 1 n deliver (to_gate n g p o)
@@ -309,13 +424,13 @@ module _ (n : Net) (k : IsKeptNet n) where
     node_carries p at (nodes.Store m) here = unless_node_down n k deliver (nodes.Store m) (to_store n m p lucks (part_of p.message)) (down_lone (nodes.Store m)) (λ up. go (part_of p.message) refl)
       where
         go : (o : Option Part) → part_of p.message ≡ o → Carries 1 n deliver (to_store n m p lucks o)
-        go None is = message_to_store m p p.message
-        go (Some part) is = store_carries number p at part is lucks m here
+        go None is = message_to_store p at m here p.message
+        go (Some part) is = part_to_store p at m here part is
     node_carries p at (nodes.Client c) here = unless_node_down n k deliver (nodes.Client c) (to_client n c p lucks (part_of p.message)) (down_lone (nodes.Client c))
         (λ up. go up (part_of p.message) refl)
       where
         go : is_node_down n (nodes.Client c) ≡ false → (o : Option Part) → part_of p.message ≡ o → Carries 1 n deliver (to_client n c p lucks o)
-        go up None is = message_to_client c p p.message
+        go up None is = message_to_client p at c here p.message
         go up (Some part) is = taken_carries number p at part is lucks c here up (device_at n c) refl
     node_carries p at (nodes.Gate g) here =
         unless_node_down n k deliver (nodes.Gate g) (to_gate n g p (gate_at n g)) (down_lone (nodes.Gate g)) (λ up. gate_carries g p (among_get n.sent number p at) (gate_at n g))
@@ -342,7 +457,7 @@ module _ (n : Net) (k : IsKeptNet n) where
 
       go : (b : Bool) → Carries 1 n (events.Link c true) (if b then still n facts.Done else asks_session (with_device c up n) c up)
       go true = answers_alone n k (events.Link c true) facts.Done (alone facts.Done tt)
-      go false = session_asked (events.Link c true) c up (with_device c up n) (λ ls are. are) (device_net n k c up there)
+      go false = session_asked (events.Link c true) c up (with_device c up n) lone_done (device_net n k c up there)
   relinked_carries c false d there =
       let down : Device = record d { linked = false } in
       stays_alone n k (events.Link c false) (with_device c down n) facts.Done (alone facts.Done tt) (device_net n k c down there)
@@ -352,6 +467,82 @@ module _ (n : Net) (k : IsKeptNet n) where
   linked_carries c up lucks (Some d) some =
       unless_node_down n k (events.Link c up) (nodes.Client c) (relinked n c up d) (alone (facts.Refuses (facts.NodeDown (nodes.Client c))) tt)
       (λ is_up. relinked_carries c up d (k.devices c d some))
+
+  -- ---- a client asks for a table to be made or dropped
+
+  module _ (event : Event) (lone : (lines : List Line) → AreAnswered IsAskingAnswer lines → IsLone event lines) where
+    refusal_carries : (refusal : Refusal) → IsAskingRefusal refusal → Carries 1 n event (refused n refusal)
+    refusal_carries refusal is = answers_alone n k event (facts.Refuses refusal) (lone _ (asks_alone (facts.Refuses refusal) is))
+
+    asks_carries : (c table : ℕ) (o : Option Device) (m : Message) → part_of m ≡ None → Carries 1 n event (asks_for n c table o m)
+    asks_carries c table o m none =
+        let one : Sent = record { from = nodes.Client c; to = way_to n.wire.world table o; message = m } in
+        sends_alone n k event n (one ∷ []) (λ ls are. lone ls (asking_done ls are)) (itself n k) (no_part_in one none)
+      where
+        no_part_in : (one : Sent) → part_of one.message ≡ None → AreParts n.wire (one ∷ [])
+        no_part_in one none q b part is = no_part (part_of q.message) part (⊎_elim (λ e. ap (λ (x : Sent). part_of x.message) (sym e) ∙ none) (λ more. absurd (among_none q more)) (among_cons one [] q b)) is
+
+    away_carries : (c : ℕ) (lucks : Lucks) (node : Client) (x : NetStep) → Carries 1 n event x → Carries 1 n event (unless_away n c lucks node x)
+    away_carries c lucks node x carries_x = go node.agenda
+      where
+        linked_up : (b : Bool) → Carries 1 n event (if b then refused n facts.Offline else x)
+        linked_up true = refusal_carries facts.Offline tt
+        linked_up false = carries_x
+
+        go : (o : Option (List ClientTask)) → Carries 1 n event (if_idle n lucks o (if is_cut n.wire.world c then refused n facts.Offline else x))
+        go None = linked_up (is_cut n.wire.world c)
+        go (Some []) = linked_up (is_cut n.wire.world c)
+        go (Some (task ∷ tasks)) = refusal_carries (facts.Busy lucks.shape.plan) tt
+
+    up_carries : (c : ℕ) (x : NetStep) → Carries 1 n event x → Carries 1 n event (unless_down n (nodes.Client c) x)
+    up_carries c x carries_x = unless_node_down n k event (nodes.Client c) x (lone _ (asks_alone (facts.Refuses (facts.NodeDown (nodes.Client c))) tt)) (λ up. carries_x)
+
+    still_carries : Carries 1 n event (still n facts.Done)
+    still_carries = answers_alone n k event facts.Done (lone _ (asks_alone facts.Done tt))
+
+  create_carried : (table : ℕ) (lucks : Lucks) (node : Node) → Carries 1 n (events.Create node table) (net.created n table lucks node)
+  create_carried table lucks (nodes.Client c) = go (client_at n.wire.world c)
+    where
+      event : Event
+      event = events.Create (nodes.Client c) table
+
+      same : (lines : List Line) → AreAnswered IsAskingAnswer lines → IsLone event lines
+      same lines are = are
+
+      asks : (o : Option Schema) → Carries 1 n event (asks_create n c table (device_at n c) o)
+      asks None = still_carries event same
+      asks (Some schema) = asks_carries event same c table (device_at n c) _ refl
+
+      go : (o : Option Client) → Carries 1 n event (to_ask n c table lucks o)
+      go None = refusal_carries event same facts.NoTable tt
+      go (Some node) = up_carries event same c _ (away_carries event same c lucks node _ (asks (schema_at n.wire.world table)))
+  create_carried table lucks other = still_carries (events.Create other table) (λ lines are. are)
+
+  drop_carried : (table : ℕ) (lucks : Lucks) (node : Node) → Carries 1 n (events.Drop node table) (net.dropped n table lucks node)
+  drop_carried table lucks (nodes.Client c) = go (client_at n.wire.world c)
+    where
+      event : Event
+      event = events.Drop (nodes.Client c) table
+
+      same : (lines : List Line) → AreAnswered IsAskingAnswer lines → IsLone event lines
+      same lines are = are
+
+      gives : (node : Client) (b : Bool) → Carries 1 n event (if b then unless_away n c lucks node (asks_drop n c table (device_at n c)) else refused n facts.NoTable)
+      gives node true = away_carries event same c lucks node _ (asks_carries event same c table (device_at n c) _ refl)
+      gives node false = refusal_carries event same facts.NoTable tt
+
+      falls : Carries 1 n event (carried_on n (wire_step n.wire event lucks))
+      falls = carries_more n event _ (own_event event refl tt lucks refl)
+
+      reads : (node : Client) (luck : Luck) → Carries 1 n event (if_read n c table lucks luck (to_give n c table lucks node))
+      reads node messages.Done = gives node (is_open (table_at (seen node.disk) table))
+      reads node messages.FailedBefore = falls
+      reads node messages.FailedAfter = falls
+
+      go : (o : Option Client) → Carries 1 n event (to_end n c table lucks o)
+      go None = refusal_carries event same facts.NoTable tt
+      go (Some node) = up_carries event same c _ (reads node (first_luck lucks.calls))
+  drop_carried table lucks other = still_carries (events.Drop other table) (λ lines are. are)
 
   -- ---- a client that starts
 
@@ -399,6 +590,8 @@ module _ (n : Net) (k : IsKeptNet n) where
   carries (events.Client c gate tables) plain built lucks = absurd (true≢false plain)
   carries (events.Deliver number) plain built lucks = deliver_carries number lucks (slice_get n.sent number) refl
   carries (events.Link c up) plain built lucks = linked_carries c up lucks (device_at n c) refl
+  carries (events.Create node table) plain built lucks = create_carried table lucks node
+  carries (events.Drop node table) plain built lucks = drop_carried table lucks node
   carries (events.Start (nodes.Client c)) plain built lucks = started_carries c lucks
   carries (events.Hold (nodes.Gate g)) plain built lucks =
       unless_node_down n k (events.Hold (nodes.Gate g)) (nodes.Gate g) _ refl (λ up. carries_more n (events.Hold (nodes.Gate g)) _ (own_event (events.Hold (nodes.Gate g)) refl tt lucks refl))

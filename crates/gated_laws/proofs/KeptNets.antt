@@ -26,8 +26,8 @@ use Rattle.wire_laws.proofs.Places.{flat_member, member_flat}
 use Rattle.gated_tables.specs.Devices.{Device, is_online, or_zero}
 use Rattle.gated_tables.specs.Net.{Sent, Net, NetStep, NetOutbox, device_at, lines_of, still, refused, unless_down, is_node_down, sending, cutting, cut_by, with_device, sent_by, sent_to}
 use Rattle.gated_tables.specs.Net.{routed_to, routed_from, routed}
-use Rattle.gated_tables.specs.Net.{asks_again, asks_by, asks_in, asking_out, out_of, outs_of, carried_on}
-use Rattle.gated_laws.specs.Carried.{AreLone, IsLone, IsEventCarried, AreLinesCarried}
+use Rattle.gated_tables.specs.Net.{Asker, asker_at, asks_again, answers_to, sends_by, told_by, passed_on, outs_by, outs_of, carried_on}
+use Rattle.gated_laws.specs.Carried.{IsDoneAnswer, AreAnswered, IsLone, IsEventCarried, AreLinesCarried}
 use Rattle.gated_laws.proofs.Addressed.{ClientsStay}
 use Rattle.gated_laws.proofs.Remembered.{shaped}
 use Rattle.gated_laws.proofs.HandedOn.{part_back, part_stamped}
@@ -103,37 +103,41 @@ module _ (n : Net) where
       go false b = absurd (among_none p b)
       go true b = ⊎_elim (λ e. ap (λ (x : Sent). part_of x.message) (sym e)) (λ more. absurd (among_none p more)) (among_cons _ [] p b)
 
-  none_by : (fact : Fact) (p : Sent) → Among (asks_by n fact) p → part_of p.message ≡ None
+  -- who asked is answered
+  none_answered : (table kind : ℕ) (o : Option Asker) (p : Sent) → Among (answers_to n.wire.world table kind o) p → part_of p.message ≡ None
+  none_answered table kind None p a = absurd (among_none p a)
+  none_answered table kind (Some x) p a = ⊎_elim (λ e. ap (λ (s : Sent). part_of s.message) (sym e)) (λ more. absurd (among_none p more)) (among_cons _ [] p a)
+
+  none_by : (fact : Fact) (p : Sent) → Among (sends_by n fact) p → part_of p.message ≡ None
   none_by (facts.ClientRecovered c) p a = none_asked c (device_at n c) p a
+  none_by (facts.Made table) p a = none_answered table 2 (asker_at n table) p a
+  none_by (facts.Unmade table) p a = none_answered table 3 (asker_at n table) p a
   none_by other p a = absurd (among_none p a)
 
-  out_parts : (out : PartOutbox) (p : Sent) → Among (out_of n out).sent p → (part : Part) → part_of p.message ≡ Some part
-      → (packet : PartPacket) × Among out.packets packet × (packet.part ≡ part) × ((p.to ≡ packet.to) ⊎ IsGate p.to)
-  out_parts out p a part is =
-      let r = among_mapped (routed n) out.packets p a in
+  passed_parts : (packets : List PartPacket) (p : Sent) → Among (map (routed n) packets) p → (part : Part) → part_of p.message ≡ Some part
+      → (packet : PartPacket) × Among packets packet × (packet.part ≡ part) × ((p.to ≡ packet.to) ⊎ IsGate p.to)
+  passed_parts packets p a part is =
+      let r = among_mapped (routed n) packets p a in
       let routed_is : IsRouted r.0 p = subst (IsRouted r.0) r.2 (is_routed r.0) in
       (r.0, r.1, (let both : Some r.0.part ≡ Some part = sym routed_is.0 ∙ is in cc), routed_is.1)
 
-  none_in : (outs : List PartOutbox) (p : Sent) → Among (asks_in n outs) p → part_of p.message ≡ None
-  none_in outs p a =
-      let o = flat_member (λ (out : PartOutbox). flat_map (asks_by n) out.facts) outs p a in
-      let fact = flat_member (asks_by n) o.0.facts p o.2 in
-      none_by fact.0 p fact.2
+  out_parts : (out : PartOutbox) (o : NetOutbox) → Among (outs_by n out) o → (p : Sent) → Among o.sent p → (part : Part) → part_of p.message ≡ Some part
+      → (packet : PartPacket) × Among out.packets packet × (packet.part ≡ part) × ((p.to ≡ packet.to) ⊎ IsGate p.to)
+  out_parts out o stands p a part is = ⊎_elim
+      (λ b.
+      let fact = among_mapped (told_by n) out.facts o b in
+      no_part (part_of p.message) part (none_by fact.0 p (subst (λ (x : NetOutbox). Among x.sent p) (sym fact.2) a)) is)
+      (λ b. ⊎_elim (λ e. passed_parts out.packets p (subst (λ (x : NetOutbox). Among x.sent p) (sym e) a) part is) (λ more. absurd (among_none o more))
+      (among_cons (passed_on n out.packets) [] o b))
+      (among_either (map (told_by n) out.facts) (passed_on n out.packets ∷ []) o stands)
 
   outs_parts : (outs : List PartOutbox) (p : Sent) → Among (lines.sent_by (outs_of n outs)) p → (part : Part) → part_of p.message ≡ Some part
       → (packet : PartPacket) × Among (packets_by outs) packet × (packet.part ≡ part) × ((p.to ≡ packet.to) ⊎ IsGate p.to)
   outs_parts outs p a part is =
       let o = flat_member (λ (out : NetOutbox). out.sent) (outs_of n outs) p a in
-      ⊎_elim
-      (λ b.
-      let r = among_mapped (out_of n) outs o.0 b in
-      let x = out_parts r.0 p (subst (λ (out : NetOutbox). Among out.sent p) (sym r.2) o.2) part is in
-      (x.0, member_flat (λ (out : PartOutbox). out.packets) outs r.0 x.0 r.1 x.1, x.2, x.3))
-      (λ b. ⊎_elim
-      (λ e. no_part (part_of p.message) part (none_in outs p (subst (λ (out : NetOutbox). Among out.sent p) (sym e) o.2)) is)
-      (λ more. absurd (among_none o.0 more))
-      (among_cons (asking_out n outs) [] o.0 b))
-      (among_either (map (out_of n) outs) (asking_out n outs ∷ []) o.0 o.1)
+      let r = flat_member (outs_by n) outs o.0 o.1 in
+      let x = out_parts r.0 o.0 r.2 p o.2 part is in
+      (x.0, member_flat (λ (out : PartOutbox). out.packets) outs r.0 x.0 r.1 x.1, x.2, x.3)
 
 -- ---- a net whose sessions, links or gateways alone are other ones
 
@@ -248,9 +252,9 @@ carries_more n event x c = record {
 module _ (n : Net) (k : IsKeptNet n) where
   -- ---- an event of the wire
 
-  pub shares : (v : Wire) → IsLinked n.wire v → (event other : Event) (lucks : Lucks) → IsBuilt other → IsEventCarried (to_of n.sent) (wires_to v.packets) event other
-      → IsKeptWire (wire_step v other lucks).wire → ClientsStay v.world (wire_step v other lucks).wire.world → Carries 0 n event (carried_on n (wire_step v other lucks))
-  shares v before event other lucks built carried kept stay = record {
+  pub shares_asked : (askers : List (ℕ × Asker)) (v : Wire) → IsLinked n.wire v → (event other : Event) (lucks : Lucks) → IsBuilt other → IsEventCarried (to_of n.sent) (wires_to v.packets) event other
+      → IsKeptWire (wire_step v other lucks).wire → ClientsStay v.world (wire_step v other lucks).wire.world → Carries 0 n event (carried_on (record n { askers = askers }) (wire_step v other lucks))
+  shares_asked askers v before event other lucks built carried kept stay = record {
     v = v;
     before = before;
     middle = inr (record {
@@ -258,27 +262,30 @@ module _ (n : Net) (k : IsKeptNet n) where
       lucks = lucks;
       built = built;
       carried = carried;
-      lines = lines_carried n n v s;
+      lines = lines_carried n m v s;
       packets = ap wires_to packets ∙ (map-append (λ (p : PartPacket). p.to) v.packets (packets_by s.outs) ∙ ap (λ (ns : List Node). wires_to v.packets ++ ns) (sym (wire_sends v s plain)));
       behind = none_linked s.wire kept;
       few = none_few;
     });
-    sent = map-append (λ (p : Sent). p.to) n.sent (lines.sent_by (carried_on n s).outs) ∙ ap (λ (ns : List Node). to_of n.sent ++ ns) (sym (carried_sends n n s plain));
+    sent = map-append (λ (p : Sent). p.to) n.sent (lines.sent_by (carried_on m s).outs) ∙ ap (λ (ns : List Node). to_of n.sent ++ ns) (sym (carried_sends n m s plain));
     kept = record {
       wire = kept;
       devices = λ c d at. stay c (before.clients c (k.devices c d at));
       sent = λ p a part is. ⊎_elim
           (λ old. more_sent v s.wire (packets_by s.outs) packets p.to part (same_sent n.wire v before.packets p.to part (k.sent p old part is)))
-          (λ new. let r = outs_parts n s.outs p new part is in record {
+          (λ new. let r = outs_parts m s.outs p new part is in record {
             packet = r.0;
             stands = subst (λ (ps : List PartPacket). Among ps r.0) (sym packets) (among_right v.packets (packets_by s.outs) r.0 r.1);
             part_is = r.2;
             to_is = r.3;
           })
-          (among_either n.sent (lines.sent_by (carried_on n s).outs) p a);
+          (among_either n.sent (lines.sent_by (carried_on m s).outs) p a);
     };
   }
     where
+      m : Net
+      m = record n { askers = askers }
+
       s : WireStep
       s = wire_step v other lucks
 
@@ -290,6 +297,10 @@ module _ (n : Net) (k : IsKeptNet n) where
 
       plain : lines.IsPlainWireStep (wire_step v other lucks)
       plain = plain_step v before.kept other lucks
+
+  pub shares : (v : Wire) → IsLinked n.wire v → (event other : Event) (lucks : Lucks) → IsBuilt other → IsEventCarried (to_of n.sent) (wires_to v.packets) event other
+      → IsKeptWire (wire_step v other lucks).wire → ClientsStay v.world (wire_step v other lucks).wire.world → Carries 0 n event (carried_on n (wire_step v other lucks))
+  shares v before event other lucks built carried kept stay = shares_asked n.askers v before event other lucks built carried kept stay
 
   -- ---- none
 
@@ -317,7 +328,7 @@ module _ (n : Net) (k : IsKeptNet n) where
       go false is = up is
 
   -- and messages behind it
-  pub sends_alone : (event : Event) (later : Net) (sent : List Sent) → ((ls : List Line) → AreLone ls → IsLone event ls) → IsLinkedNet n later → AreParts later.wire sent
+  pub sends_alone : (event : Event) (later : Net) (sent : List Sent) → ((ls : List Line) → AreAnswered IsDoneAnswer ls → IsLone event ls) → IsLinkedNet n later → AreParts later.wire sent
       → Carries 1 n event (sending later sent)
   sends_alone event later sent lone l parts = record {
     v = n.wire;

@@ -1,5 +1,5 @@
 -- What the lines of a step with gateways tell beside those of the wire's step that it carries, and what both send.
-use Rattle.std.proofs.Common.{◌≡◌, ℕ, ◌+◌, true, false, List, [], ◌∷◌, ◌++◌, length, Option, Some, None, refl, sym, ◌∙◌, ap, append-nil}
+use Rattle.std.proofs.Common.{◌≡◌, ℕ, ◌+◌, true, false, List, [], ◌∷◌, ◌++◌, length, Option, Some, None, refl, sym, ◌∙◌, ap, subst, append-nil, append_assoc}
 use Rattle.std.specs.Prelude.{map, option_to_list}
 use Rattle.std.specs.List.{AllByRecursion, flat_map}
 use Rattle.std.proofs.lemmas.List.{map-append}
@@ -11,7 +11,7 @@ use Rattle.world_tables.specs.Quiet.{sent_in}
 use Rattle.name_laws.proofs.Plain.{IsPlainFact, ArePlainFacts}
 use Rattle.wire_tables.specs.Wire.{PartPacket, PartOutbox, Wire, WireStep, part_name}
 use Rattle.wire_tables.specs.Wire as wires
-use Rattle.gated_tables.specs.Net.{Sent, Net, NetOutbox, sent_lines, lines_from, lines_of, sending, asks_by, asks_in, out_of, outs_of, carried_on}
+use Rattle.gated_tables.specs.Net.{Sent, Net, NetOutbox, sent_lines, lines_from, lines_of, sending, sends_by, told_by, passed_on, outs_by, outs_of, carried_on}
 use Rattle.gated_laws.specs.Carried.{is_sent, without_sent, AreLinesCarried}
 
 -- ---- where packets go
@@ -126,14 +126,16 @@ wire_without number (out ∷ outs) =
 
 -- ---- a step that is carried on
 
--- what is asked for behind what is sent
-abbrev asked_out : List Sent → List NetOutbox
-asked_out asked = record { facts = []; sent = asked } ∷ []
+facts_told : (n : Net) (some : List Fact) (behind : List NetOutbox)
+    → flat_map (λ (out : NetOutbox). out.facts) (map (told_by n) some ++ behind) ≡ some ++ flat_map (λ (out : NetOutbox). out.facts) behind
+facts_told n [] behind = refl
+facts_told n (fact ∷ some) behind = ap (λ (l : List Fact). fact ∷ l) (facts_told n some behind)
 
-same_facts : (n : Net) (asked : List Sent) (outs : List PartOutbox)
-    → flat_map (λ (out : NetOutbox). out.facts) (map (out_of n) outs ++ asked_out asked) ≡ flat_map (λ (out : PartOutbox). out.facts) outs
-same_facts n asked [] = refl
-same_facts n asked (out ∷ outs) = ap (λ (l : List Fact). out.facts ++ l) (same_facts n asked outs)
+same_facts : (n : Net) (outs : List PartOutbox) → flat_map (λ (out : NetOutbox). out.facts) (outs_of n outs) ≡ flat_map (λ (out : PartOutbox). out.facts) outs
+same_facts n [] = refl
+same_facts n (out ∷ outs) =
+    ap (λ (l : List NetOutbox). flat_map (λ (x : NetOutbox). x.facts) l) (append_assoc (map (told_by n) out.facts) (passed_on n out.packets ∷ []) (outs_of n outs))
+    ∙ (facts_told n out.facts (passed_on n out.packets ∷ outs_of n outs) ∙ ap (λ (l : List Fact). out.facts ++ l) (same_facts n outs))
 
 left_none : {X : Type 0} (xs ys : List X) → xs ++ ys ≡ [] → (xs ≡ []) × (ys ≡ [])
 left_none [] ys e = (refl, e)
@@ -146,27 +148,15 @@ none_of number (p ∷ packets) e = absurd cc
 
 -- where the wire tells nothing
 module _ (n : Net) where
-  none_behind : (asked : List Sent) (number count : ℕ) (outs : List PartOutbox) → asked ≡ [] → wire_told count outs ≡ [] → told number (map (out_of n) outs ++ asked_out asked) ≡ []
-  unfolding told wire_told
-  none_behind asked number count [] none e = ap (λ (some : List Sent). told number (asked_out some)) none
-  none_behind asked number count (out ∷ outs) none e =
-      let a = left_none out.facts (packet_facts count out.packets ++ wire_told (count + length out.packets) outs) e in
-      let b = left_none (packet_facts count out.packets) (wire_told (count + length out.packets) outs) a.1 in
-      let behind : List NetOutbox = map (out_of n) outs ++ asked_out asked in
-      ap (λ (o : PartOutbox). o.facts ++ (sent_facts number (out_of n o).sent ++ told (number + length (out_of n o).sent) behind))
-      (ap (λ (some : List Fact). record out { facts = some }) a.0 ∙ ap (λ (ps : List PartPacket). record { facts = []; packets = ps }) (none_of count out.packets b.0))
-      ∙ none_behind asked (number + 0) (count + length out.packets) outs none b.1
-
-  none_asked : (count : ℕ) (outs : List PartOutbox) → wire_told count outs ≡ [] → asks_in n outs ≡ []
-  unfolding wire_told
-  none_asked count [] e = refl
-  none_asked count (out ∷ outs) e =
-      let a = left_none out.facts (packet_facts count out.packets ++ wire_told (count + length out.packets) outs) e in
-      let b = left_none (packet_facts count out.packets) (wire_told (count + length out.packets) outs) a.1 in
-      ap (λ (some : List Fact). flat_map (asks_by n) some ++ asks_in n outs) a.0 ∙ none_asked (count + length out.packets) outs b.1
-
   none_told : (number count : ℕ) (outs : List PartOutbox) → wire_told count outs ≡ [] → told number (outs_of n outs) ≡ []
-  none_told number count outs e = none_behind (asks_in n outs) number count outs (none_asked count outs e) e
+  unfolding told wire_told
+  none_told number count [] e = refl
+  none_told number count (out ∷ outs) e =
+      let a = left_none out.facts (packet_facts count out.packets ++ wire_told (count + length out.packets) outs) e in
+      let b = left_none (packet_facts count out.packets) (wire_told (count + length out.packets) outs) a.1 in
+      ap (λ (some : List Fact). told number ((map (told_by n) some ++ passed_on n out.packets ∷ []) ++ outs_of n outs)) a.0
+      ∙ (ap (λ (ps : List PartPacket). told number (passed_on n ps ∷ outs_of n outs)) (none_of count out.packets b.0)
+      ∙ none_told (number + 0) (count + length out.packets) outs b.1)
 
 ahead : (a : List Line) (b c : List Line) → a ++ (b ++ c) ≡ (a ++ b) ++ c
 ahead [] b c = refl
@@ -182,7 +172,7 @@ lines_carried n m v s = record {
   whole_are = ap (λ (l : List Line). map AnswerLine (option_to_list s.answer) ++ (s.counted ++ l)) (wire_lines_told (length v.packets) s.outs)
       ∙ ahead (map AnswerLine (option_to_list s.answer)) s.counted (map FactLine (wire_told (length v.packets) s.outs));
   none = none_told m (length n.sent) (length v.packets) s.outs;
-  same = told_without (length n.sent) outs ∙ (ap without_sent (same_facts m (asks_in m s.outs) s.outs) ∙ sym (wire_without (length v.packets) s.outs));
+  same = told_without (length n.sent) outs ∙ (ap without_sent (same_facts m s.outs) ∙ sym (wire_without (length v.packets) s.outs));
 }
   where
     head : List Line
@@ -214,19 +204,26 @@ packets_send : (number : ℕ) (packets : List PartPacket) (rest : List Line) →
 packets_send number [] rest = refl
 packets_send number (p ∷ packets) rest = ap (λ (ns : List Node). p.to ∷ ns) (packets_send (number + 1) packets rest)
 
-module _ (m : Net) (asked : List Sent) where
-  abbrev outs_asked : List PartOutbox → List NetOutbox
-  outs_asked outs = map (out_of m) outs ++ asked_out asked
+abbrev ArePlainOuts : List NetOutbox → Type 0
+ArePlainOuts outs = AllByRecursion (λ (out : NetOutbox). ArePlainFacts out.facts) outs
 
-  outs_send : (number : ℕ) (outs : List PartOutbox) → AllByRecursion (λ (out : PartOutbox). ArePlainFacts out.facts) outs
-      → sent_in (lines_from number (outs_asked outs)) ≡ to_of (sent_by (outs_asked outs))
-  outs_send number [] p = messages_send number asked [] ∙ sym (map-append (λ (x : Sent). x.to) asked [])
-  outs_send number (out ∷ outs) p =
-      let sent : List Sent = (out_of m out).sent in
-      let later : ℕ = number + length sent in
-      facts_send out.facts (sent_lines number sent ++ lines_from later (outs_asked outs)) p.0
-      ∙ (messages_send number sent (lines_from later (outs_asked outs))
-      ∙ (ap (λ (ns : List Node). to_of sent ++ ns) (outs_send later outs p.1) ∙ sym (map-append (λ (x : Sent). x.to) sent (sent_by (outs_asked outs)))))
+outs_send : (number : ℕ) (outs : List NetOutbox) → ArePlainOuts outs → sent_in (lines_from number outs) ≡ to_of (sent_by outs)
+outs_send number [] p = refl
+outs_send number (out ∷ outs) p =
+    let later : ℕ = number + length out.sent in
+    facts_send out.facts (sent_lines number out.sent ++ lines_from later outs) p.0
+    ∙ (messages_send number out.sent (lines_from later outs)
+    ∙ (ap (λ (ns : List Node). to_of out.sent ++ ns) (outs_send later outs p.1) ∙ sym (map-append (λ (x : Sent). x.to) out.sent (sent_by outs))))
+
+plain_told : (m : Net) (some : List Fact) (behind : List NetOutbox) → ArePlainFacts some → ArePlainOuts behind → ArePlainOuts (map (told_by m) some ++ behind)
+plain_told m [] behind p q = q
+plain_told m (fact ∷ some) behind p q = ((p.0, tt), plain_told m some behind p.1 q)
+
+plain_outs : (m : Net) (outs : List PartOutbox) → AllByRecursion (λ (out : PartOutbox). ArePlainFacts out.facts) outs → ArePlainOuts (outs_of m outs)
+plain_outs m [] p = tt
+plain_outs m (out ∷ outs) p =
+    subst ArePlainOuts (sym (append_assoc (map (told_by m) out.facts) (passed_on m out.packets ∷ []) (outs_of m outs)))
+    (plain_told m out.facts (passed_on m out.packets ∷ outs_of m outs) p.0 (tt, plain_outs m outs p.1))
 
 wire_outs_send : (number : ℕ) (outs : List PartOutbox) → AllByRecursion (λ (out : PartOutbox). ArePlainFacts out.facts) outs → sent_in (wires.lines_from number outs) ≡ wires_to (packets_by outs)
 wire_outs_send number [] p = refl
@@ -243,7 +240,7 @@ answer_sends (Some answer) rest = refl
 pub carried_sends : (n m : Net) (s : WireStep) → IsPlainWireStep s → sent_in (lines_of n (carried_on m s)) ≡ to_of (sent_by (carried_on m s).outs)
 carried_sends n m s p =
     let lines : List Line = lines_from (length n.sent) (outs_of m s.outs) in
-    answer_sends s.answer (s.counted ++ lines) ∙ (p.counted lines ∙ outs_send m (asks_in m s.outs) (length n.sent) s.outs p.facts)
+    answer_sends s.answer (s.counted ++ lines) ∙ (p.counted lines ∙ outs_send (length n.sent) (outs_of m s.outs) (plain_outs m s.outs p.facts))
 
 pub wire_sends : (v : Wire) (s : WireStep) → IsPlainWireStep s → sent_in (wires.lines_of v s) ≡ wires_to (packets_by s.outs)
 wire_sends v s p =

@@ -41,14 +41,22 @@ abbrev pub IsNoGate : Node → Type 0
 IsNoGate (nodes.Gate number) = ⊥
 IsNoGate other = Unit {0}
 
--- A delivery to a client or to a Store is one of the part that the message is, to the same node: of its packet, which
--- went straight. A client is declared without its gateway. A gateway has no work, doesn't crash and doesn't start on a
--- wire; every other event is the same.
+-- what a message makes of the node that it comes to: it is a part, whose packet went straight to the same node, or a
+-- table is made or dropped there
+abbrev pub IsBrought : List Node → Node → Event → Type 0
+IsBrought whole to (events.Deliver number) = slice_get whole number ≡ Some to
+IsBrought whole to (events.Create node table) = node ≡ to
+IsBrought whole to (events.Drop node table) = node ≡ to
+IsBrought whole to other = ⊥
+
+-- A delivery to a client or to a Store brings what the message is to the same node. A client is declared without its
+-- gateway, and none asks there for a table to be made. A gateway has no work, doesn't crash and doesn't start on a wire;
+-- every other event is the same.
 abbrev pub IsEventCarried : List Node → List Node → Event → Event → Type 0
 IsEventCarried sent whole (events.Deliver packet) other =
-    (to : Node) × (number : ℕ) × IsNoGate to × (slice_get sent packet ≡ Some to) × (other ≡ events.Deliver number)
-    × (slice_get whole number ≡ Some to)
+    (to : Node) × IsNoGate to × (slice_get sent packet ≡ Some to) × IsBrought whole to other
 IsEventCarried sent whole (events.Client client gate tables) other = other ≡ events.Client client None tables
+IsEventCarried sent whole (events.Create node table) other = ⊥
 IsEventCarried sent whole (events.Work (nodes.Gate number)) other = ⊥
 IsEventCarried sent whole (events.WorkAll (nodes.Gate number)) other = ⊥
 IsEventCarried sent whole (events.Crash (nodes.Gate number) calls pick) other = ⊥
@@ -75,13 +83,33 @@ IsLoneAnswer facts.Done = Unit {0}
 IsLoneAnswer (facts.Refuses refusal) = IsLoneRefusal refusal
 IsLoneAnswer other = ⊥
 
--- done or refused, and then packets that are sent
-pub record AreLone (lines : List Line) : Type 0 where
+abbrev pub IsDoneAnswer : Answer → Type 0
+IsDoneAnswer facts.Done = Unit {0}
+IsDoneAnswer other = ⊥
+
+abbrev pub IsAskingRefusal : Refusal → Type 0
+IsAskingRefusal facts.NoTable = Unit {0}
+IsAskingRefusal (facts.NodeDown node) = Unit {0}
+IsAskingRefusal facts.Offline = Unit {0}
+IsAskingRefusal (facts.Busy with) = Unit {0}
+IsAskingRefusal other = ⊥
+
+abbrev pub IsAskingAnswer : Answer → Type 0
+IsAskingAnswer facts.Done = Unit {0}
+IsAskingAnswer (facts.Refuses refusal) = IsAskingRefusal refusal
+IsAskingAnswer other = ⊥
+
+-- an answer, and then packets that are sent
+pub record AreAnswered (is_answer : Answer → Type 0) (lines : List Line) : Type 0 where
   pub answer : Answer
-  pub is : IsLoneAnswer answer
+  pub is : is_answer answer
   pub told : List Fact
   pub sent : AllByRecursion (λ (fact : Fact). is_sent fact ≡ true) told
   pub lines_are : lines ≡ AnswerLine answer ∷ map FactLine told
+
+-- done or refused
+abbrev pub AreLone : List Line → Type 0
+AreLone lines = AreAnswered IsLoneAnswer lines
 
 -- this answer alone
 abbrev pub IsOne : Answer → List Line → Type 0
@@ -90,11 +118,13 @@ IsOne answer lines = lines ≡ AnswerLine answer ∷ []
 abbrev pub IsDown : ℕ → List Line → Type 0
 IsDown number lines = IsOne (facts.Refuses (facts.NodeDown (nodes.Gate number))) lines
 
--- A delivery to a gateway, of a message that is no part, to a node that is down, or of no message; a link of a client
--- that has a gateway; and what is done to a gateway.
+-- A delivery to a gateway, of a message that changes no node, to a node that is down, or of no message; a link of a
+-- client that has a gateway; a call that asks for a table to be made or dropped; and what is done to a gateway.
 abbrev pub IsLone : Event → List Line → Type 0
 IsLone (events.Deliver packet) lines = AreLone lines
 IsLone (events.Link client up) lines = AreLone lines
+IsLone (events.Create node table) lines = AreAnswered IsAskingAnswer lines
+IsLone (events.Drop node table) lines = AreAnswered IsAskingAnswer lines
 IsLone (events.Hold (nodes.Gate number)) lines = IsDown number lines
 IsLone (events.Free (nodes.Gate number)) lines = IsDown number lines
 IsLone (events.Work (nodes.Gate number)) lines = IsOne (facts.Did steps.Idle) lines ⊎ IsDown number lines

@@ -1,4 +1,5 @@
 pub mod Devices
+pub mod Schemas
 pub mod Net
 pub mod Worked
 pub mod Runs

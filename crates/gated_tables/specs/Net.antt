@@ -1,7 +1,9 @@
 -- The world of parts with gateways. A client is wired to the Stores, or has a gateway: what it sends goes there, and
 -- the gateway passes it on to the owner of the table as it is; what a Store answers comes back the same way. What
--- clients and Stores make of a part that has come is what they make of it in the world of parts.
-use Rattle.std.specs.Prelude.{ℕ, ◌+◌, ◌==◌, ◌&&◌, Bool, true, false, List, [], ◌∷◌, ◌++◌, length, map, fold}
+-- clients and Stores make of a part that has come is what they make of it in the world of parts. A client asks the
+-- table's owner to make or to drop a table; where the owner's answer says that it is done, and where any answer says
+-- that the table isn't live, the client opens the table or closes it.
+use Rattle.std.specs.Prelude.{ℕ, ◌+◌, ◌==◌, ◌&&◌, ◌||◌, not, Bool, true, false, List, [], ◌∷◌, ◌++◌, length, map, fold}
 use Rattle.std.specs.Prelude.{slice_get, Option, Some, None, option_to_list, if◌then◌else◌}
 use Rattle.std.specs.List.{flat_map}
 use Rattle.std.specs.Ordering.{nat_cmp}
@@ -16,23 +18,31 @@ use Rattle.table_model.specs.declared.event.Event.{Event}
 use Rattle.table_model.specs.declared.event.Event.TheVariants as events
 use Rattle.table_model.specs.declared.message.Message.{Message}
 use Rattle.table_model.specs.declared.message.Message.TheVariants as messages
+use Rattle.table_model.specs.declared.message.CreateTable.{CreateTable}
+use Rattle.table_model.specs.declared.message.DropTable.{DropTable}
 use Rattle.table_model.specs.declared.message.OperationResponse.{OperationResponse}
 use Rattle.table_model.specs.declared.message.RestoreClientSubscriptions.{RestoreClientSubscriptions}
+use Rattle.table_model.specs.declared.table_state.TableState.{TableState}
+use Rattle.table_model.specs.declared.table_state.TableState.TheVariants as states
 use Rattle.table_model.specs.MessageNames.{name_of}
 use Rattle.step_tables.specs.Facts.{Fact, Answer, Refusal, Line, AnswerLine, FactLine}
 use Rattle.step_tables.specs.Facts as facts
-use Rattle.step_tables.specs.ClientMoves.{Client, ClientTask}
+use Rattle.step_tables.specs.Messages.{Luck}
+use Rattle.step_tables.specs.Messages as calls
+use Rattle.step_tables.specs.ClientMoves.{Client, ClientTask, TableDisk, table_at, seen}
 use Rattle.step_tables.specs.StoreMoves.{StoreTask, version_at}
-use Rattle.world_tables.specs.World.{World, Hosted, Lucks, hosted_at, client_at, is_down, with_link, owner_of}
-use Rattle.world_tables.specs.World.{is_client_down, busy_table}
+use Rattle.world_tables.specs.World.{World, Hosted, Lucks, hosted_at, hosted_by, client_at, schema_at, is_down, is_cut}
+use Rattle.world_tables.specs.World.{is_client_down, busy_live, is_live_state, with_link, owner_of, first_luck}
 use Rattle.part_tables.specs.Parts.{Part}
 use Rattle.message_parts.specs.Parts.{part_of, message_at}
-use Rattle.wire_tables.specs.Wire.{Wire, PartPacket, PartOutbox, WireStep, brought, wire_step}
+use Rattle.wire_tables.specs.Wire.{Wire, PartPacket, PartOutbox, WireStep, brought, part_table, wire_step}
 use Rattle.wire_tables.specs.Wire as wires
+use Rattle.gate_tables.specs.declared.timer.Asked.{Asked}
 use Rattle.gate_tables.specs.declared.timer.Placed.{Placed}
 use Rattle.gate_tables.specs.Gate.{Gateway, Running, Directory}
 use Rattle.gate_tables.specs.Gate as gate
 use Rattle.gated_tables.specs.Devices.{Device, new_device, is_online, or_zero, stamped, register, part_client}
+use Rattle.gated_tables.specs.Schemas.{same_schema}
 
 -- a message that was sent
 pub record Sent : Type 0 where
@@ -40,23 +50,32 @@ pub record Sent : Type 0 where
   pub to : Node
   pub message : Message
 
+-- who asked for a table to be made or dropped: which client, and where its answer goes
+pub record Asker : Type 0 where
+  pub client : ℕ
+  pub to : Node
+
 -- the world of the clients and the Stores, in which a client with a gateway counts as cut off while it isn't registered
--- or its link is down; the gateways; of each client that has one what it has of it; and every message that was ever
--- sent, in order
+-- or its link is down; the gateways; of each client that has one what it has of it; of each table who last had it made
+-- or dropped; and every message that was ever sent, in order
 pub record Net : Type 0 where
   pub wire : Wire
   pub gates : List (ℕ × Gateway)
   pub devices : List (ℕ × Device)
+  pub askers : List (ℕ × Asker)
   pub sent : List Sent
 
 abbrev pub start : Net
-start = record { wire = wires.start; gates = []; devices = []; sent = [] }
+start = record { wire = wires.start; gates = []; devices = []; askers = []; sent = [] }
 
 abbrev pub gate_at : Net → ℕ → Option Gateway
 gate_at n number = lookup (is_at (nat_cmp number)) n.gates
 
 abbrev pub device_at : Net → ℕ → Option Device
 device_at n c = lookup (is_at (nat_cmp c)) n.devices
+
+abbrev pub asker_at : Net → ℕ → Option Asker
+asker_at n table = lookup (is_at (nat_cmp table)) n.askers
 
 abbrev pub running_in : Option Gateway → Option Running
 running_in None = None
@@ -162,31 +181,58 @@ routed_from n p from = routed_to n p p.to
 abbrev pub routed : Net → PartPacket → Sent
 routed n p = routed_from n p p.from
 
--- at the end of a recovery a client with its link up asks for a session
+-- ---- what is sent since something came to be
+
+-- a client with its link up asks for a session
 abbrev pub asks_again : ℕ → Option Device → List Sent
 asks_again c None = []
 asks_again c (Some d) = if d.linked
     then record { from = nodes.Client c; to = nodes.Gate d.gate; message = register c } ∷ []
     else []
 
-abbrev pub asks_by : Net → Fact → List Sent
-asks_by n (facts.ClientRecovered c) = asks_again c (device_at n c)
-asks_by n other = []
+-- the answer that a table is made has its schema
+abbrev pub schema_with : World → ℕ → ℕ → ℕ → Option Schema
+schema_with w table kind status = if (kind == 2) && (status == 0) then schema_at w table else None
 
-abbrev pub out_of : Net → PartOutbox → NetOutbox
-out_of n out = record { facts = out.facts; sent = map (routed n) out.packets }
+-- the owner's answer to a message of this kind: 0 where it is carried out, and 18 where the table is in another state
+abbrev pub answer_from : World → ℕ → Asker → ℕ → ℕ → Sent
+answer_from w table a kind status = record {
+  from = nodes.Store (owner_of w table);
+  to = a.to;
+  message = messages.OperationResponse (record {
+    client = a.client;
+    table = table;
+    answered = kind;
+    status = status;
+    token = 0;
+    schema = schema_with w table kind status;
+  });
+}
+
+abbrev pub answers_to : World → ℕ → ℕ → Option Asker → List Sent
+answers_to w table kind None = []
+answers_to w table kind (Some a) = answer_from w table a kind 0 ∷ []
+
+-- at the end of a recovery a client asks for a session; and who asked is answered once a table is made or dropped
+abbrev pub sends_by : Net → Fact → List Sent
+sends_by n (facts.ClientRecovered c) = asks_again c (device_at n c)
+sends_by n (facts.Made table) = answers_to n.wire.world table 2 (asker_at n table)
+sends_by n (facts.Unmade table) = answers_to n.wire.world table 3 (asker_at n table)
+sends_by n other = []
 
 -- ---- a step of the wire, with what it sends on its way
 
--- what clients ask for that have recovered in it; a recovery's end is the last thing that a step does
-abbrev pub asks_in : Net → List PartOutbox → List Sent
-asks_in n outs = flat_map (λ (out : PartOutbox). flat_map (asks_by n) out.facts) outs
+abbrev pub told_by : Net → Fact → NetOutbox
+told_by n fact = record { facts = fact ∷ []; sent = sends_by n fact }
 
-abbrev pub asking_out : Net → List PartOutbox → NetOutbox
-asking_out n outs = record { facts = []; sent = asks_in n outs }
+abbrev pub passed_on : Net → List PartPacket → NetOutbox
+passed_on n packets = record { facts = []; sent = map (routed n) packets }
+
+abbrev pub outs_by : Net → PartOutbox → List NetOutbox
+outs_by n out = map (told_by n) out.facts ++ passed_on n out.packets ∷ []
 
 abbrev pub outs_of : Net → List PartOutbox → List NetOutbox
-outs_of n outs = map (out_of n) outs ++ asking_out n outs ∷ []
+outs_of n outs = flat_map (outs_by n) outs
 
 abbrev pub carried_on : Net → WireStep → NetStep
 carried_on n s = let outs : List NetOutbox = outs_of n s.outs in record {
@@ -224,11 +270,31 @@ abbrev pub agenda_in : Option Client → Option (List ClientTask)
 agenda_in None = None
 agenda_in (Some node) = node.agenda
 
+abbrev pub of_session : Net → ℕ → OperationResponse → Option Device → NetStep
+of_session n c m None = still n facts.Done
+of_session n c m (Some d) = answered n c m d
+
+-- whether an answer says that a table is there now, or that it is there no more
+abbrev pub says_made : OperationResponse → Bool
+says_made m = (m.status == 0) && (m.answered == 2)
+
+abbrev pub says_gone : OperationResponse → Bool
+says_gone m = (m.status == 18) || ((m.status == 0) && (m.answered == 3))
+
+-- a client whose link is up opens the table then, or closes it for good
+abbrev pub answer_heard : Net → ℕ → OperationResponse → Lucks → Option Device → NetStep
+answer_heard n c m lucks o =
+    if says_gone m then carried_on n (wire_step n.wire (events.Drop (nodes.Client c) m.table) lucks)
+    else (if says_made m then carried_on n (wire_step n.wire (events.Create (nodes.Client c) m.table) lucks)
+    else if_idle n lucks (agenda_in (client_at n.wire.world c)) (of_session n c m o))
+
+abbrev pub is_linked : Net → ℕ → Option Device → Bool
+is_linked n c None = not (is_cut n.wire.world c)
+is_linked n c (Some d) = d.linked
+
 abbrev pub answer_taken : Net → ℕ → OperationResponse → Lucks → Option Device → NetStep
-answer_taken n c m lucks None = still n facts.Done
-answer_taken n c m lucks (Some d) =
-    if d.linked then if_idle n lucks (agenda_in (client_at n.wire.world c)) (answered n c m d)
-    else refused n facts.Offline
+answer_taken n c m lucks o =
+    if is_linked n c o then answer_heard n c m lucks o else refused n facts.Offline
 
 abbrev pub to_client : Net → ℕ → Sent → Lucks → Option Part → NetStep
 to_client n c p lucks (Some part) =
@@ -255,20 +321,86 @@ busy_with (Some hosted) = by_agenda hosted.store.agenda
     by_agenda (Some (task ∷ tasks)) = version_at hosted.store.disk task.change
     by_agenda other = 0
 
--- the subscriptions that a Store has kept, of which there are none yet; it is busy where any of its tables is
+-- the subscriptions that a Store has kept, of which there are none yet; it is busy where any of its live tables is
 abbrev pub restored : Net → ℕ → Sent → RestoreClientSubscriptions → Option ℕ → NetStep
 restored n number p m None = if m.reply then still n facts.Done else sending n (restoring number p m ∷ [])
 restored n number p m (Some table) = refused n (facts.Busy (busy_with (hosted_at n.wire.world table)))
 
-abbrev pub to_store : Net → ℕ → Sent → Lucks → Option Part → NetStep
-to_store n number p lucks (Some part) = carried_on n
+-- a table at work is asked again later
+abbrev pub unless_busy : Net → Hosted → NetStep → NetStep
+unless_busy n hosted s = by_agenda hosted.store.agenda
+  where
+    by_agenda : Option (List StoreTask) → NetStep
+    by_agenda (Some (task ∷ tasks)) = refused n (facts.Busy (busy_with (Some hosted)))
+    by_agenda other = s
+
+abbrev pub answering : Net → ℕ → Asker → ℕ → ℕ → NetStep
+answering n table a kind status = sending n (answer_from n.wire.world table a kind status ∷ [])
+
+abbrev pub asked_by : ℕ → Asker → Net → Net
+asked_by table a n = record n { askers = insert_entry nat_cmp n.askers table a }
+
+abbrev pub is_schema : Schema → Option Schema → Bool
+is_schema schema None = false
+is_schema schema (Some declared) = same_schema schema declared
+
+-- a table that was drafted with this schema is made; one that is live is there already; one that was dropped stays so
+abbrev pub creates : Net → ℕ → Asker → CreateTable → Lucks → TableState → NetStep
+creates n number a m lucks states.Draft = if is_schema m.schema (schema_at n.wire.world m.table)
+    then carried_on (asked_by m.table a n) (wire_step n.wire (events.Create (nodes.Store number) m.table) lucks)
+    else answering n m.table a 2 18
+creates n number a m lucks states.Live =
+    answering n m.table a 2 (if is_schema m.schema (schema_at n.wire.world m.table) then 0 else 18)
+creates n number a m lucks states.Dropped = answering n m.table a 2 18
+
+abbrev pub drops : Net → ℕ → Asker → DropTable → Lucks → TableState → NetStep
+drops n number a m lucks states.Live =
+    carried_on (asked_by m.table a n) (wire_step n.wire (events.Drop (nodes.Store number) m.table) lucks)
+drops n number a m lucks other = answering n m.table a 3 18
+
+abbrev pub to_create : Net → ℕ → Sent → CreateTable → Lucks → Option Hosted → NetStep
+to_create n number p m lucks None = still n facts.Done
+to_create n number p m lucks (Some hosted) = unless_busy n hosted
+    (creates n number (record { client = m.client; to = p.from }) m lucks hosted.store.disk.state)
+
+abbrev pub to_drop : Net → ℕ → Sent → DropTable → Lucks → Option Hosted → NetStep
+to_drop n number p m lucks None = still n facts.Done
+to_drop n number p m lucks (Some hosted) = unless_busy n hosted
+    (drops n number (record { client = m.client; to = p.from }) m lucks hosted.store.disk.state)
+
+-- what a client asks of a table that isn't live is refused, whatever it is
+abbrev pub turned_away : Net → Sent → Option Asked → NetStep
+turned_away n p None = still n facts.Done
+turned_away n p (Some a) = answering n a.table (record { client = a.client; to = p.from }) a.kind 18
+
+abbrev pub part_taken : Net → ℕ → Sent → Lucks → Part → NetStep
+part_taken n number p lucks part = carried_on n
     (brought n.wire (record { from = nodes.Client (part_client part); to = p.to; part = part }) lucks
     (nodes.Store number))
+
+abbrev pub is_idle : Hosted → Bool
+is_idle hosted = by_agenda hosted.store.agenda
+  where
+    by_agenda : Option (List StoreTask) → Bool
+    by_agenda (Some []) = true
+    by_agenda other = false
+
+-- a table with nothing to do that isn't live
+abbrev pub is_shut : Option Hosted → Bool
+is_shut None = false
+is_shut (Some hosted) = is_idle hosted && not (is_live_state hosted.store.disk.state)
+
+abbrev pub to_store : Net → ℕ → Sent → Lucks → Option Part → NetStep
+to_store n number p lucks (Some part) = if is_shut (hosted_by n.wire.world number (part_table part))
+    then turned_away n p (gate.asked p.message)
+    else part_taken n number p lucks part
 to_store n number p lucks None = by_message p.message
   where
     by_message : Message → NetStep
+    by_message (messages.CreateTable m) = to_create n number p m lucks (hosted_by n.wire.world number m.table)
+    by_message (messages.DropTable m) = to_drop n number p m lucks (hosted_by n.wire.world number m.table)
     by_message (messages.RestoreClientSubscriptions m) =
-        restored n number p m (busy_table n.wire.world number)
+        restored n number p m (busy_live n.wire.world number)
     by_message other = still n facts.Done
 
 -- to a gateway
@@ -331,6 +463,69 @@ abbrev pub linked : Net → ℕ → Bool → Lucks → Option Device → NetStep
 linked n c up lucks None = carried_on n (wire_step n.wire (events.Link c up) lucks)
 linked n c up lucks (Some d) = unless_down n (nodes.Client c) (relinked n c up d)
 
+-- ---- a client asks for a table to be made, or to be dropped
+
+abbrev pub way_to : World → ℕ → Option Device → Node
+way_to w table None = nodes.Store (owner_of w table)
+way_to w table (Some d) = nodes.Gate d.gate
+
+abbrev pub token_with : Option Device → ℕ
+token_with None = 0
+token_with (Some d) = or_zero d.token
+
+abbrev pub asks_for : Net → ℕ → ℕ → Option Device → Message → NetStep
+asks_for n c table o message = sending n
+    (record { from = nodes.Client c; to = way_to n.wire.world table o; message = message } ∷ [])
+
+-- neither while it is at work, nor without its link or its session
+abbrev pub unless_away : Net → ℕ → Lucks → Client → NetStep → NetStep
+unless_away n c lucks node s =
+    if_idle n lucks node.agenda (if is_cut n.wire.world c then refused n facts.Offline else s)
+
+abbrev pub asks_create : Net → ℕ → ℕ → Option Device → Option Schema → NetStep
+asks_create n c table o None = still n facts.Done
+asks_create n c table o (Some schema) = asks_for n c table o
+    (messages.CreateTable (record { client = c; token = token_with o; table = table; schema = schema }))
+
+abbrev pub asks_drop : Net → ℕ → ℕ → Option Device → NetStep
+asks_drop n c table o =
+    asks_for n c table o (messages.DropTable (record { client = c; token = token_with o; table = table }))
+
+-- with the schema that was declared
+abbrev pub to_ask : Net → ℕ → ℕ → Lucks → Option Client → NetStep
+to_ask n c table lucks None = refused n facts.NoTable
+to_ask n c table lucks (Some node) = unless_down n (nodes.Client c)
+    (unless_away n c lucks node (asks_create n c table (device_at n c) (schema_at n.wire.world table)))
+
+abbrev pub is_open : Option TableDisk → Bool
+is_open None = false
+is_open (Some table) = not table.closed
+
+-- a table that the client has opened, and hasn't closed
+abbrev pub to_give : Net → ℕ → ℕ → Lucks → Client → NetStep
+to_give n c table lucks node = if is_open (table_at (seen node.disk) table)
+    then unless_away n c lucks node (asks_drop n c table (device_at n c))
+    else refused n facts.NoTable
+
+-- that is read of its disks; where they can't be read it goes down, as where it closes the table
+abbrev pub if_read : Net → ℕ → ℕ → Lucks → Luck → NetStep → NetStep
+if_read n c table lucks calls.Done s = s
+if_read n c table lucks other s = carried_on n (wire_step n.wire (events.Drop (nodes.Client c) table) lucks)
+
+abbrev pub to_end : Net → ℕ → ℕ → Lucks → Option Client → NetStep
+to_end n c table lucks None = refused n facts.NoTable
+to_end n c table lucks (Some node) = unless_down n (nodes.Client c)
+    (if_read n c table lucks (first_luck lucks.calls) (to_give n c table lucks node))
+
+-- no other node asks
+abbrev pub created : Net → ℕ → Lucks → Node → NetStep
+created n table lucks (nodes.Client c) = to_ask n c table lucks (client_at n.wire.world c)
+created n table lucks other = still n facts.Done
+
+abbrev pub dropped : Net → ℕ → Lucks → Node → NetStep
+dropped n table lucks (nodes.Client c) = to_end n c table lucks (client_at n.wire.world c)
+dropped n table lucks other = still n facts.Done
+
 -- ---- declarations
 
 abbrev pub joined_by : ℕ → Option ℕ → Net → Net
@@ -381,6 +576,8 @@ net_step n (events.Gate number) lucks =
 net_step n (events.Client c number tables) lucks = joined n c number tables lucks (client_at n.wire.world c)
 net_step n (events.Deliver number) lucks = delivered n lucks (slice_get n.sent number)
 net_step n (events.Link c up) lucks = linked n c up lucks (device_at n c)
+net_step n (events.Create node table) lucks = created n table lucks node
+net_step n (events.Drop node table) lucks = dropped n table lucks node
 net_step n (events.Start (nodes.Client c)) lucks = client_started n c lucks
 net_step n (events.Hold (nodes.Gate number)) lucks =
     unless_down n (nodes.Gate number) (carried_on n (wire_step n.wire (events.Hold (nodes.Gate number)) lucks))

@@ -1,6 +1,6 @@
 -- Worked scripts with what they write: a gateway crashes while an answer is on its way, and its client registers again;
--- a client crashes, and its link goes down.
-use Rattle.std.specs.Prelude.{ℕ, true, false, List, [], ◌∷◌, codes, Some, pos}
+-- a client crashes, and its link goes down; a table is made and dropped.
+use Rattle.std.specs.Prelude.{ℕ, true, false, List, [], ◌∷◌, codes, Some, None, pos}
 use Rattle.stab_base.specs.declared.node.Node.{Node}
 use Rattle.stab_base.specs.declared.node.Node.TheVariants as nodes
 use Rattle.row_value.specs.declared.content.Cell.TheVariants as cells
@@ -173,4 +173,67 @@ client_goes_down_written =
     ∷ (offline ∷ [])
     ∷ (ok ∷ sent 7 c1 g1 names.RegisterDevice ∷ [])
     ∷ (ok ∷ sent 8 c1 g1 names.PullRequest ∷ [])
+    ∷ []
+
+abbrev pub create : Event
+create = events.Create c1 1
+
+abbrev pub drop : Event
+drop = events.Drop c1 1
+
+abbrev pub show : Event
+show = events.Show 1 1 the_row
+
+abbrev pub made_and_dropped : List Event
+made_and_dropped =
+    events.Store 1
+    ∷ events.Draft 1 notes
+    ∷ events.Client 1 None []
+    ∷ drop
+    ∷ create
+    ∷ deliver 0
+    ∷ deliver 1
+    ∷ events.Write 1 1 the_row (Row (cells.Int (pos 5) ∷ []) [])
+    ∷ create
+    ∷ drop
+    ∷ deliver 3
+    ∷ sync
+    ∷ deliver 5
+    ∷ deliver 6
+    ∷ show
+    ∷ deliver 2
+    ∷ deliver 4
+    ∷ drop
+    ∷ []
+
+abbrev pub no_table : Line
+no_table = AnswerLine (facts.Refuses facts.NoTable)
+
+abbrev pub made_and_dropped_written : List (List Line)
+made_and_dropped_written =
+    []
+    ∷ []
+    ∷ []
+    ∷ (no_table ∷ [])
+    ∷ (ok ∷ sent 0 c1 s1 names.CreateTable ∷ [])
+    ∷ (ok ∷ FactLine (facts.Made 1) ∷ sent 1 s1 c1 names.OperationResponse ∷ [])
+    ∷ (ok ∷ FactLine (facts.Client (facts.Opened 1 1)) ∷ [])
+    ∷ (AnswerLine (facts.Number 1) ∷ FactLine (facts.Client (facts.Wrote (record {
+      client = 1;
+      number = 1;
+      table = 1;
+      row = the_row;
+      read = 0;
+      content = Row (cells.Int (pos 5) ∷ []) [];
+    }))) ∷ [])
+    ∷ (ok ∷ sent 2 c1 s1 names.CreateTable ∷ [])
+    ∷ (ok ∷ sent 3 c1 s1 names.DropTable ∷ [])
+    ∷ (ok ∷ FactLine (facts.Unmade 1) ∷ sent 4 s1 c1 names.OperationResponse ∷ [])
+    ∷ (AnswerLine (facts.Number 1) ∷ sent 5 c1 s1 names.SyncRequest ∷ [])
+    ∷ (ok ∷ sent 6 s1 c1 names.OperationResponse ∷ [])
+    ∷ (ok ∷ FactLine (facts.Client (facts.Dropped 1 1)) ∷ [])
+    ∷ (no_table ∷ [])
+    ∷ (ok ∷ sent 7 s1 c1 names.OperationResponse ∷ [])
+    ∷ (ok ∷ [])
+    ∷ (no_table ∷ [])
     ∷ []

@@ -9,11 +9,19 @@ use Rattle.table_model.specs.declared.event.Event.{Event}
 use Rattle.table_model.specs.declared.event.Event.TheVariants as events
 use Rattle.table_model.specs.declared.message.Message.{Message}
 use Rattle.table_model.specs.declared.message.Message.TheVariants as kinds
+use Rattle.row_value.specs.declared.schema.Schema.{Schema}
+use Rattle.table_model.specs.declared.message.CreateTable.{CreateTable}
+use Rattle.table_model.specs.declared.message.DropTable.{DropTable}
 use Rattle.table_model.specs.declared.message.OperationResponse.{OperationResponse}
+use Rattle.table_model.specs.declared.table_state.TableState.{TableState}
+use Rattle.table_model.specs.declared.table_state.TableState.TheVariants as states
 use Rattle.table_model.specs.declared.message.RestoreClientSubscriptions.{RestoreClientSubscriptions}
-use Rattle.step_tables.specs.ClientMoves.{Client, ClientTask}
+use Rattle.step_tables.specs.Messages.{Luck}
+use Rattle.step_tables.specs.Messages as messages
+use Rattle.step_tables.specs.ClientMoves.{Client, ClientTask, table_at, seen}
+use Rattle.step_tables.specs.StoreMoves.{StoreTask}
 use Rattle.world_tables.specs.Turns.{Happening}
-use Rattle.world_tables.specs.World.{Lucks, client_at, is_client_down, busy_table}
+use Rattle.world_tables.specs.World.{Lucks, Hosted, client_at, schema_at, hosted_by, is_client_down, is_cut, busy_live, first_luck}
 use Rattle.part_tables.specs.Parts.{Part}
 use Rattle.message_parts.specs.Parts.{part_of}
 use Rattle.gate_tables.specs.declared.timer.Asked.{Asked}
@@ -26,11 +34,13 @@ use Rattle.gate_tables.specs.Gate as gate
 use Rattle.gated_tables.specs.Devices.{Device}
 use Rattle.gated_tables.specs.Devices as devices
 use Rattle.gated_tables.specs.Net as net
-use Rattle.wire_tables.specs.Wire.{PartPacket, wire_step}
+use Rattle.wire_tables.specs.Wire.{PartPacket, part_table, wire_step}
 use Rattle.step_tables.specs.Facts as facts
 use Rattle.table_model.specs.declared.message.TableSubscription.{TableSubscription}
 use Rattle.gated_tables.specs.Net.{Net, NetStep, Sent, start, gate_at, device_at, is_node_down, unless_down, has_none, cut_by, restarted, client_taken, answered, if_idle, agenda_in}
 use Rattle.gated_tables.specs.Net.{answer_taken, to_client, restored, to_store, directory_of, gate_done, to_gate, delivered_to, delivered, relinked, linked, joined_by, joined, gate_declared}
+use Rattle.gated_tables.specs.Net.{Asker, of_session, says_gone, says_made, answer_heard, is_linked, unless_busy, answering, asked_by, is_schema, creates, drops, to_create, to_drop, turned_away}
+use Rattle.gated_tables.specs.Net.{part_taken, is_shut, unless_away, asks_create, asks_drop, to_ask, is_open, to_give, if_read, to_end}
 use Rattle.gated_tables.specs.Net.{gate_crashed, gate_started, client_started, net_step}
 use Rattle.gated_tables.specs.Runs.{net_from}
 use Rattle.world_laws.proofs.Looks.{look_cases}
@@ -179,12 +189,28 @@ module _ (most : ℕ) (n : Net) (all : AreGatesFew most n) where
   idle_few lucks (Some []) x f = f
   idle_few lucks (Some (task ∷ tasks)) x f = kept
 
-  answer_few : (c : ℕ) (m : OperationResponse) (lucks : Lucks) (o : Option Device) → AreFewBehind (answer_taken n c m lucks o)
-  answer_few c m lucks None = kept
-  answer_few c m lucks (Some d) = go d.linked
+  of_session_few : (c : ℕ) (m : OperationResponse) (o : Option Device) → AreFewBehind (of_session n c m o)
+  of_session_few c m None = kept
+  of_session_few c m (Some d) = answered_few c m d
+
+  heard_few : (c : ℕ) (m : OperationResponse) (lucks : Lucks) (o : Option Device) → AreFewBehind (answer_heard n c m lucks o)
+  heard_few c m lucks o = go (says_gone m) (says_made m)
     where
-      go : (b : Bool) → AreFewBehind (if b then if_idle n lucks (agenda_in (client_at n.wire.world c)) (answered n c m d) else net.refused n facts.Offline)
-      go true = idle_few lucks (agenda_in (client_at n.wire.world c)) (answered n c m d) (answered_few c m d)
+      agenda : Option (List ClientTask)
+      agenda = agenda_in (client_at n.wire.world c)
+
+      go : (gone made : Bool) → AreFewBehind (if gone then net.carried_on n (wire_step n.wire (events.Drop (nodes.Client c) m.table) lucks)
+          else (if made then net.carried_on n (wire_step n.wire (events.Create (nodes.Client c) m.table) lucks)
+          else if_idle n lucks agenda (of_session n c m o)))
+      go true made = kept
+      go false true = kept
+      go false false = idle_few lucks agenda (of_session n c m o) (of_session_few c m o)
+
+  answer_few : (c : ℕ) (m : OperationResponse) (lucks : Lucks) (o : Option Device) → AreFewBehind (answer_taken n c m lucks o)
+  answer_few c m lucks o = go (is_linked n c o)
+    where
+      go : (b : Bool) → AreFewBehind (if b then answer_heard n c m lucks o else net.refused n facts.Offline)
+      go true = heard_few c m lucks o
       go false = kept
 
   message_few : (c : ℕ) (p : Sent) (lucks : Lucks) (m : Message) → AreFewBehind (to_client n c (record p { message = m }) lucks None)
@@ -203,12 +229,52 @@ module _ (most : ℕ) (n : Net) (all : AreGatesFew most n) where
       go true = kept
       go false = kept
 
+  busy_few : (hosted : Hosted) (x : NetStep) → AreFewBehind x → AreFewBehind (unless_busy n hosted x)
+  busy_few hosted x f = go hosted.store.agenda
+    where
+      go : (o : Option (List StoreTask)) → AreFewBehind (unless_busy n (record hosted { store = record (hosted.store) { agenda = o } }) x)
+      go None = f
+      go (Some []) = f
+      go (Some (task ∷ tasks)) = kept
+
+  creates_few : (s : ℕ) (a : Asker) (m : CreateTable) (lucks : Lucks) (state : TableState) → AreFewBehind (creates n s a m lucks state)
+  creates_few s a m lucks states.Draft = go (is_schema m.schema (schema_at n.wire.world m.table))
+    where
+      go : (b : Bool) → AreFewBehind (if b then net.carried_on (asked_by m.table a n) (wire_step n.wire (events.Create (nodes.Store s) m.table) lucks) else answering n m.table a 2 18)
+      go true = kept
+      go false = kept
+  creates_few s a m lucks states.Live = kept
+  creates_few s a m lucks states.Dropped = kept
+
+  drops_few : (s : ℕ) (a : Asker) (m : DropTable) (lucks : Lucks) (state : TableState) → AreFewBehind (drops n s a m lucks state)
+  drops_few s a m lucks states.Draft = kept
+  drops_few s a m lucks states.Live = kept
+  drops_few s a m lucks states.Dropped = kept
+
+  to_create_few : (s : ℕ) (p : Sent) (m : CreateTable) (lucks : Lucks) (o : Option Hosted) → AreFewBehind (to_create n s p m lucks o)
+  to_create_few s p m lucks None = kept
+  to_create_few s p m lucks (Some hosted) = busy_few hosted _ (creates_few s (record { client = m.client; to = p.from }) m lucks hosted.store.disk.state)
+
+  to_drop_few : (s : ℕ) (p : Sent) (m : DropTable) (lucks : Lucks) (o : Option Hosted) → AreFewBehind (to_drop n s p m lucks o)
+  to_drop_few s p m lucks None = kept
+  to_drop_few s p m lucks (Some hosted) = busy_few hosted _ (drops_few s (record { client = m.client; to = p.from }) m lucks hosted.store.disk.state)
+
+  turned_few : (p : Sent) (o : Option Asked) → AreFewBehind (turned_away n p o)
+  turned_few p None = kept
+  turned_few p (Some a) = kept
+
   store_message : (s : ℕ) (p : Sent) (lucks : Lucks) (m : Message) → AreFewBehind (to_store n s (record p { message = m }) lucks None)
-  store_message s p lucks (kinds.RestoreClientSubscriptions m) = restored_net s p m (busy_table n.wire.world s)
+  store_message s p lucks (kinds.CreateTable m) = to_create_few s p m lucks (hosted_by n.wire.world s m.table)
+  store_message s p lucks (kinds.DropTable m) = to_drop_few s p m lucks (hosted_by n.wire.world s m.table)
+  store_message s p lucks (kinds.RestoreClientSubscriptions m) = restored_net s p m (busy_live n.wire.world s)
   store_message s p lucks other = kept
 
   to_store_few : (s : ℕ) (p : Sent) (lucks : Lucks) (o : Option Part) → AreFewBehind (to_store n s p lucks o)
-  to_store_few s p lucks (Some part) = kept
+  to_store_few s p lucks (Some part) = go (is_shut (hosted_by n.wire.world s (part_table part)))
+    where
+      go : (b : Bool) → AreFewBehind (if b then turned_away n p (asked p.message) else part_taken n s p lucks part)
+      go true = turned_few p (asked p.message)
+      go false = kept
   to_store_few s p lucks None = store_message s p lucks p.message
 
   to_gate_few : (number : ℕ) (p : Sent) (o : Option Gateway) → gate_at n number ≡ o → AreFewBehind (to_gate n number p o)
@@ -286,6 +352,44 @@ module _ (most : ℕ) (n : Net) (all : AreGatesFew most n) where
       go true = put_few number _ (record { starts = let s = (all number gateway at).starts in omega (arith, s); drawn = omega arith })
       go false = kept
 
+  -- ---- a client asks for a table to be made or dropped
+
+  away_few : (c : ℕ) (lucks : Lucks) (node : Client) (x : NetStep) → AreFewBehind x → AreFewBehind (unless_away n c lucks node x)
+  away_few c lucks node x f = idle_few lucks node.agenda _ (go (is_cut n.wire.world c))
+    where
+      go : (b : Bool) → AreFewBehind (if b then net.refused n facts.Offline else x)
+      go true = kept
+      go false = f
+
+  create_few : (table : ℕ) (lucks : Lucks) (node : Node) → AreFewBehind (net.created n table lucks node)
+  create_few table lucks (nodes.Client c) = go (client_at n.wire.world c)
+    where
+      asks : (o : Option Schema) → AreFewBehind (asks_create n c table (device_at n c) o)
+      asks None = kept
+      asks (Some schema) = kept
+
+      go : (o : Option Client) → AreFewBehind (to_ask n c table lucks o)
+      go None = kept
+      go (Some node) = unless_few (nodes.Client c) _ (away_few c lucks node _ (asks (schema_at n.wire.world table)))
+  create_few table lucks other = kept
+
+  drop_few : (table : ℕ) (lucks : Lucks) (node : Node) → AreFewBehind (net.dropped n table lucks node)
+  drop_few table lucks (nodes.Client c) = go (client_at n.wire.world c)
+    where
+      gives : (node : Client) (b : Bool) → AreFewBehind (if b then unless_away n c lucks node (asks_drop n c table (device_at n c)) else net.refused n facts.NoTable)
+      gives node true = away_few c lucks node _ kept
+      gives node false = kept
+
+      reads : (node : Client) (luck : Luck) → AreFewBehind (if_read n c table lucks luck (to_give n c table lucks node))
+      reads node messages.Done = gives node (is_open (table_at (seen node.disk) table))
+      reads node messages.FailedBefore = kept
+      reads node messages.FailedAfter = kept
+
+      go : (o : Option Client) → AreFewBehind (to_end n c table lucks o)
+      go None = kept
+      go (Some node) = unless_few (nodes.Client c) _ (reads node (first_luck lucks.calls))
+  drop_few table lucks other = kept
+
   -- ---- any event
 
   step_few : (event : Event) (lucks : Lucks) → AreFewBehind (net_step n event lucks)
@@ -293,6 +397,8 @@ module _ (most : ℕ) (n : Net) (all : AreGatesFew most n) where
   step_few (events.Client c number tables) lucks = joined_few c number tables lucks (client_at n.wire.world c)
   step_few (events.Deliver number) lucks = deliver_few lucks (slice_get n.sent number)
   step_few (events.Link c up) lucks = linked_few c up lucks (device_at n c)
+  step_few (events.Create node table) lucks = create_few table lucks node
+  step_few (events.Drop node table) lucks = drop_few table lucks node
   step_few (events.Start (nodes.Client c)) lucks = started_few c lucks
   step_few (events.Hold (nodes.Gate number)) lucks = unless_few (nodes.Gate number) _ kept
   step_few (events.Free (nodes.Gate number)) lucks = unless_few (nodes.Gate number) _ kept

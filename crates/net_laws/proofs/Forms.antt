@@ -19,7 +19,7 @@ use Rattle.form_laws.proofs.Runs.{run_forms}
 use Rattle.form_laws.proofs.Texts.{forms_told}
 use Rattle.form_laws.proofs.Wires.{all_join}
 use Rattle.gated_tables.specs.Runs.{net_turns}
-use Rattle.gated_laws.specs.Carried.{AreLinesCarried, IsLoneAnswer, AreLone, IsLone, AreCarriedFrom}
+use Rattle.gated_laws.specs.Carried.{AreLinesCarried, IsLoneAnswer, IsAskingAnswer, AreAnswered, AreLone, IsLone, AreCarriedFrom}
 use Rattle.gated_laws.specs.Runs.{AreDeclaredFirst, IsRunOfWires}
 use Rattle.gated_laws.proofs.CarriedTurns.{by_turns}
 use Rattle.gated_laws.proofs.NetRuns.{run_of_wires}
@@ -49,12 +49,22 @@ lone_answer other is = absurd is
 are_lone : (lines : List Line) → AreLone lines → HaveForms lines
 are_lone lines a = subst HaveForms (sym a.lines_are) (lone_answer a.answer a.is, facts_have a.told)
 
+asking_answer : (answer : Answer) → IsAskingAnswer answer → HasAnswerForm answer
+asking_answer facts.Done is = tt
+asking_answer (facts.Refuses refusal) is = tt
+asking_answer other is = absurd is
+
+are_asking : (lines : List Line) → AreAnswered IsAskingAnswer lines → HaveForms lines
+are_asking lines a = subst HaveForms (sym a.lines_are) (asking_answer a.answer a.is, facts_have a.told)
+
 is_one : (answer : Answer) (lines : List Line) → lines ≡ AnswerLine answer ∷ [] → HasAnswerForm answer → HaveForms lines
 is_one answer lines is form = subst HaveForms (sym is) (form, tt)
 
 lone_has : (event : Event) (lines : List Line) → IsLone event lines → HaveForms lines
 lone_has (events.Deliver packet) lines a = are_lone lines a
 lone_has (events.Link client up) lines a = are_lone lines a
+lone_has (events.Create node table) lines a = are_asking lines a
+lone_has (events.Drop node table) lines a = are_asking lines a
 lone_has (events.Hold (nodes.Gate number)) lines is = is_one _ lines is tt
 lone_has (events.Free (nodes.Gate number)) lines is = is_one _ lines is tt
 lone_has (events.Work (nodes.Gate number)) lines is = ⊎_elim (λ e. is_one _ lines e tt) (λ e. is_one _ lines e tt) is

@@ -1,18 +1,35 @@
--- Messages without a schema, a list or bytes, which have a frame wherever their numbers have the widths of their types.
-use Rattle.std.specs.Prelude.{◌≡◌, ◌<◌, ◌^◌, false, [], None}
+-- Messages without a list or bytes, whose schema is short where they have one: they have a frame wherever their numbers
+-- have the widths of their types.
+use Rattle.std.specs.Prelude.{◌≡◌, ℕ, ◌+◌, ◌≤◌, ◌<◌, ◌^◌, [], length}
+use Rattle.row_value.specs.declared.schema.Schema.{Schema}
+use Rattle.value_codec.specs.SchemaSpelling.{HasSchemaSpelling, schema_spelling}
+use Rattle.field_codec.specs.Forms.{IsOptionIf}
 use Rattle.table_model.specs.declared.message.Message.{Message}
 use Rattle.table_model.specs.declared.message.Message.TheVariants as messages
 use Rattle.sync_msgs.specs.Spelling.{IsClient, has_schema}
 
+-- how many bytes the body of a frame has, and one more
+abbrev pub frame_room : ℕ
+frame_room = 1048576
+
+-- a frame has room for the schema, with 128 bytes more
+pub record IsFramed (schema : Schema) : Type 0 where
+  pub spelled : HasSchemaSpelling schema
+  pub short : length (schema_spelling schema) + 128 ≤ frame_room
+
 abbrev pub IsShort : Message → Type 0
 IsShort (messages.RegisterDevice m) = IsClient m.client
+IsShort (messages.CreateTable m) = IsClient m.client × IsFramed m.schema
+IsShort (messages.DropTable m) = IsClient m.client
 IsShort (messages.OperationResponse m) =
-    IsClient m.client × (has_schema m.answered m.status ≡ false) × (m.schema ≡ None)
+    IsClient m.client × IsOptionIf (has_schema m.answered m.status) IsFramed m.schema
 IsShort (messages.RestoreClientSubscriptions m) = IsClient m.client × (m.subscriptions ≡ [])
 IsShort other = ⊥
 
 -- their numbers have the widths of their types
 abbrev pub HasWidths : Message → Type 0
+HasWidths (messages.CreateTable m) = (m.token < 2 ^ 64) × (m.table < 2 ^ 32)
+HasWidths (messages.DropTable m) = (m.token < 2 ^ 64) × (m.table < 2 ^ 32)
 HasWidths (messages.OperationResponse m) =
     (m.table < 2 ^ 32) × (m.answered < 256) × (m.status < 2 ^ 32) × (m.token < 2 ^ 64)
 HasWidths (messages.RestoreClientSubscriptions m) = m.gate < 2 ^ 32

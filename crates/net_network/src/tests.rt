@@ -2,7 +2,7 @@ use super::*;
 use part_network::NetworkFault;
 use std::alloc::{AllocError, Global};
 use std::test::Fail;
-use table_model::{Message, Node, PullRequest, RegisterDevice};
+use table_model::{DropTable, Message, Node, OperationResponse, PullRequest, RegisterDevice};
 
 const CLIENT: Node = Node::Client(3);
 
@@ -61,6 +61,51 @@ fn a_message_that_is_no_part_is_read(rt: HostRuntime) -> Result<(), Fail> {
     assert_eq!(rt; registered(rt.alloc(), &network, 3)?, Some(3));
     assert_eq!(rt; registered(rt.alloc(), &network, 2)?, None);
     assert_eq!(rt; registered(rt.alloc(), &network, 4)?, None);
+    Ok(())
+}
+
+/// A client asks for table 2 to be dropped, and the owner's answer goes back: messages 0 and 1.
+fn send_drop(network: &mut Network) -> Result<(), NetworkFault> {
+    let asked = Message::DropTable(DropTable {
+        client: 3,
+        token: 77,
+        table: 2,
+    });
+    know_frame(&asked);
+    network.send(CLIENT, GATE, &asked)?;
+    let answer = Message::OperationResponse(OperationResponse {
+        client: 3,
+        table: 2,
+        answered: 3,
+        status: 18,
+        token: 0,
+        schema: None,
+    });
+    know_frame(&answer);
+    network.send(STORE, GATE, &answer)
+}
+
+/// The table and the status of an answer, and the table alone of a message that asks for a drop.
+fn dropped(
+    alloc: Global,
+    network: &Network,
+    number: u64,
+) -> Result<Option<(u32, u32)>, AllocError> {
+    match network.read(alloc, number)? {
+        Some(Message::DropTable(m)) => Ok(Some((m.table, 0))),
+        Some(Message::OperationResponse(m)) => Ok(Some((m.table, m.status))),
+        _ => Ok(None),
+    }
+}
+
+#[test]
+fn a_drop_and_its_answer_are_read(rt: HostRuntime) -> Result<(), Fail> {
+    let mut network = Network::new(rt.alloc());
+    send_drop(&mut network)?;
+    assert_eq!(rt; dropped(rt.alloc(), &network, 0)?, Some((2, 0)));
+    assert_eq!(rt; dropped(rt.alloc(), &network, 1)?, Some((2, 18)));
+    // 5 bytes of length and kind each, and 16 of a drop and 22 of an answer
+    assert_eq!(rt; network.bytes(), 48);
     Ok(())
 }
 

@@ -397,6 +397,19 @@ is_at_work w table = has_tasks (hosted_tasks (hosted_at w table))
 abbrev pub busy_table : World → ℕ → Option ℕ
 busy_table w number = find (is_at_work w) (tables_of w number)
 
+abbrev pub is_live_state : TableState → Bool
+is_live_state states.Draft = false
+is_live_state states.Live = true
+is_live_state states.Dropped = false
+
+abbrev pub is_live : Option Hosted → Bool
+is_live None = false
+is_live (Some hosted) = is_live_state hosted.store.disk.state
+
+-- a Store's live table of least number that has writes to do
+abbrev pub busy_live : World → ℕ → Option ℕ
+busy_live w number = find (λ table. is_live (hosted_at w table) && is_at_work w table) (tables_of w number)
+
 -- its next write
 abbrev pub write_next : ℕ → Luck → Option ℕ → World → Moved
 write_next number luck None w = still w

@@ -43,6 +43,17 @@ module _ {D : Type 0} (state : D → DiskState) (w : World) (host : ClientHost D
       let there = found state w host.clients c h.there node is in
       of (is_cut w c) c there.0 there.2 ∙ sym (ap (λ (o : Option Client). not (is_cut w c) && is_idle_client o) there.1)
 
+  -- whose link is down
+  pub cut_there : (node : ClientNode D) → Some node ≡ tree.get nat_cmp host.clients c → not node.is_linked ≡ is_cut w c
+  cut_there node is = let there = found state w host.clients c h.there node is in ap not there.2.linked ∙ twice (is_cut w c)
+    where
+      twice : (b : Bool) → not (not b) ≡ b
+      twice true = refl
+      twice false = refl
+
+  pub not_cut : None ≡ tree.get nat_cmp host.clients c → false ≡ is_cut w c
+  not_cut none = sym (not_found state w host.clients c h.there none).1
+
   pub not_ready : None ≡ tree.get nat_cmp host.clients c → false ≡ is_client_ready w c
   not_ready none =
       let gone = not_found state w host.clients c h.there none in

@@ -12,7 +12,7 @@ ghost use Rattle.client_node.specs.declared.fault.CallFault.TheVariants.{Disk as
 ghost use Rattle.client_node.specs.Node.{IsToOpen};
 ghost use Rattle.world_tables.specs.World.{World as AWorld, client_at, client_tasks, is_down, joined, linked};
 ghost use Rattle.world_tables.specs.World.{worked, all_worked, client_crashes, client_writes, client_until_idle};
-ghost use Rattle.world_tables.specs.World.{next_write, client_pairs, chosen_of, client_falls};
+ghost use Rattle.world_tables.specs.World.{next_write, client_pairs, chosen_of, client_falls, is_cut};
 ghost use Rattle.world_tables.specs.Ready.{is_client_ready};
 ghost use Rattle.journal_host.specs.declared.asking.Request.TheVariants as requests;
 ghost use Rattle.journal_host.specs.declared.fault.ClientFault.TheVariants.{Memory};
@@ -81,6 +81,16 @@ impl<D: Disk + Drop> ClientHost<D> {
     {
         match self.clients.get(&client) {
             Some(node) => !node.is_up(),
+            None => false,
+        }
+    }
+
+    /// Whether the link of the client is down.
+    pub fn is_cut(&self, client: ClientNo) -> bool
+        ensures { (w : AWorld) → HoldsClients D.state w self.now → result ≡ is_cut w client }
+    {
+        match self.clients.get(&client) {
+            Some(node) => !node.is_linked(),
             None => false,
         }
     }

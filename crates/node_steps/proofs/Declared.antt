@@ -11,8 +11,9 @@ use Rattle.row_value.specs.declared.schema.Schema.{Schema}
 use Rattle.value_codec.specs.SchemaSpelling.{schema_spelling}
 use Rattle.vault.specs.Limit.{payload_most}
 use Rattle.row_store.specs.Spelling.{IsClient}
+use Rattle.table_model.specs.declared.event.Event.{Event}
 use Rattle.table_model.specs.declared.event.Event.TheVariants as events
-use Rattle.table_model.specs.declared.table_state.TableState.TheVariants as states
+use Rattle.table_model.specs.declared.table_state.TableState.{TableState}
 use Rattle.row_store.specs.Spelling.{table_payload}
 use Rattle.step_tables.specs.ClientMoves.{Client}
 use Rattle.step_tables.specs.Messages.{Luck}
@@ -23,7 +24,7 @@ use Rattle.store_host.specs.Holds.{HoldsStore}
 use Rattle.store_host.specs.Holds as stores
 use Rattle.store_host.specs.Steps.{faults_of}
 use Rattle.store_host.proofs.Maps.{not_found}
-use Rattle.world_tables.specs.World.{no_lucks, Hosted, schema_at, hosted_at, client_at, owner_of, with_store, with_table, made_with, new_hosted, declared, joined, step}
+use Rattle.world_tables.specs.World.{Lucks, WorldStep, no_lucks, first_luck, Hosted, schema_at, hosted_at, client_at, owner_of, with_store, with_table, made_with, new_hosted, declared, joined, step}
 use Rattle.world_tables.specs.World as moves
 use Rattle.world_tables.specs.Faults.{is_failure, fails_new, fails_joined}
 use Rattle.client_node.specs.declared.node.ClientNode.{ClientNode}
@@ -38,12 +39,13 @@ use Rattle.fair_laws.specs.Reached.{IsMade}
 use Rattle.fair_laws.specs.Worlds.{IsFair}
 use Rattle.node_steps.specs.declared.told.Told.{Told}
 use Rattle.node_steps.specs.declared.world.World.{World}
+use Rattle.node_steps.specs.Declaring.{Declares}
 use Rattle.node_steps.specs.Numbers.{AreNumbered}
 use Rattle.node_steps.specs.Holds.{Holds, AreOut, first_disk, first_client_disk}
 use Rattle.node_steps.specs.Faults.{IsCounted, AreTotals, ComesCounted, IsUndone}
 use Rattle.node_steps.specs.Calls.{with_calls}
 use Rattle.node_steps.specs.Steps.{IsStep}
-use Rattle.node_steps.specs.Told.{IsOnly}
+use Rattle.node_steps.specs.Told.{answer_lines, AreOuts, IsOnly}
 use Rattle.node_steps.proofs.Rows.{Stays}
 use Rattle.node_steps.proofs.Counted.{tables_counted, client_counted, tables_same, clients_still, all_same}
 use Rattle.node_steps.proofs.Staying.{store_stays}
@@ -84,59 +86,59 @@ pub nothing_at : {X : Type 0} (o : Option X) → is_some o ≡ false → o ≡ N
 nothing_at None e = refl
 nothing_at (Some x) e = absurd cc
 
-module _ {D : Type 0} (state : D → DiskState) (w : moves.World) (table : ℕ) (schema : Schema) (old : World D) (r : Rest state w old) (none : hosted_at w table ≡ None) (schemas : tree.BTreeMap ℕ Schema)
+module _ {D : Type 0} (state : D → DiskState) (w : moves.World) (table : ℕ) (schema : Schema) (stage : TableState) (old : World D) (r : Rest state w old) (none : hosted_at w table ≡ None) (schemas : tree.BTreeMap ℕ Schema)
     (put : (q : ℕ) → tree.get nat_cmp schemas q ≡ cond (is_at (nat_cmp table) q) (Some schema) (tree.get nat_cmp old.schemas q)) (range : (1 ≤ table) × (table ≤ 64)) where
   unknown : schema_at w table ≡ None
   unknown = nothing_at (schema_at w table) (r.numbered.both table ∙ ap (λ (o : Option Hosted). is_some o) none)
 
-  known : (made : Bool) (q : ℕ) → schema_at (with_table w table schema states.Live made) q ≡ cond (is_at (nat_cmp table) q) (Some schema) (schema_at w q)
+  known : (made : Bool) (q : ℕ) → schema_at (with_table w table schema stage made) q ≡ cond (is_at (nat_cmp table) q) (Some schema) (schema_at w q)
   known made q = lookup-insert nat_cmp nat_cmp_total w.schemas table schema q
 
-  there : (made : Bool) (q : ℕ) → hosted_at (with_table w table schema states.Live made) q ≡ cond (is_at (nat_cmp table) q) (Some (new_hosted states.Live made)) (hosted_at w q)
-  there made q = lookup-insert nat_cmp nat_cmp_total w.tables table (new_hosted states.Live made) q
+  there : (made : Bool) (q : ℕ) → hosted_at (with_table w table schema stage made) q ≡ cond (is_at (nat_cmp table) q) (Some (new_hosted stage made)) (hosted_at w q)
+  there made q = lookup-insert nat_cmp nat_cmp_total w.tables table (new_hosted stage made) q
 
-  numbered_with : (made : Bool) → AreNumbered (with_table w table schema states.Live made)
+  numbered_with : (made : Bool) → AreNumbered (with_table w table schema stage made)
   numbered_with made = record {
     both = λ q. ap (λ (o : Option Schema). is_some o) (known made q) ∙ (go q (is_at (nat_cmp table) q) ∙ sym (ap (λ (o : Option Hosted). is_some o) (there made q)));
     tables = λ q is. near q (is_at (nat_cmp table) q) refl (sym (ap (λ (o : Option Hosted). is_some o) (there made q)) ∙ is);
     clients = r.numbered.clients;
   }
     where
-      go : (q : ℕ) (b : Bool) → is_some (cond b (Some schema) (schema_at w q)) ≡ is_some (cond b (Some (new_hosted states.Live made)) (hosted_at w q))
+      go : (q : ℕ) (b : Bool) → is_some (cond b (Some schema) (schema_at w q)) ≡ is_some (cond b (Some (new_hosted stage made)) (hosted_at w q))
       go q true = refl
       go q false = r.numbered.both q
 
-      near : (q : ℕ) (b : Bool) → is_at (nat_cmp table) q ≡ b → is_some (cond b (Some (new_hosted states.Live made)) (hosted_at w q)) ≡ true → (1 ≤ q) × (q ≤ 64)
+      near : (q : ℕ) (b : Bool) → is_at (nat_cmp table) q ≡ b → is_some (cond b (Some (new_hosted stage made)) (hosted_at w q)) ≡ true → (1 ≤ q) × (q ≤ 64)
       near q true e is = subst (λ (k : ℕ). (1 ≤ k) × (k ≤ 64)) (at_same table q e) range
       near q false e is = r.numbered.tables q is
 
-  rest_with : (made : Bool) → Rest state (with_table w table schema states.Live made) (record old { schemas = schemas })
+  rest_with : (made : Bool) → Rest state (with_table w table schema stage made) (record old { schemas = schemas })
   rest_with made = record {
     schemas = λ q. put q ∙ (ap (λ (o : Option Schema). cond (is_at (nat_cmp table) q) (Some schema) o) (r.schemas q) ∙ sym (known made q));
-    clients = clients_stay state w (with_table w table schema states.Live made) old.clients r.clients (record { clients = refl; cuts = refl; phases = refl });
+    clients = clients_stay state w (with_table w table schema stage made) old.clients r.clients (record { clients = refl; cuts = refl; phases = refl });
     clients_told = r.clients_told;
     held = r.held;
     numbered = numbered_with made;
   }
 
-  pub made_rest : (luck : Luck) → Rest state (made_with w table schema states.Live luck) (record old { schemas = schemas })
+  pub made_rest : (luck : Luck) → Rest state (made_with w table schema stage luck) (record old { schemas = schemas })
   made_rest messages.Done = rest_with true
   made_rest messages.FailedBefore = rest_with false
   made_rest messages.FailedAfter = rest_with false
 
-  with_there : (made : Bool) (q : ℕ) → is_some (hosted_at (with_table w table schema states.Live made) q) ≡ cond (is_at (nat_cmp table) q) true (is_some (hosted_at w q))
+  with_there : (made : Bool) (q : ℕ) → is_some (hosted_at (with_table w table schema stage made) q) ≡ cond (is_at (nat_cmp table) q) true (is_some (hosted_at w q))
   with_there made q = ap (λ (o : Option Hosted). is_some o) (there made q) ∙ go (is_at (nat_cmp table) q)
     where
-      go : (b : Bool) → is_some (cond b (Some (new_hosted states.Live made)) (hosted_at w q)) ≡ cond b true (is_some (hosted_at w q))
+      go : (b : Bool) → is_some (cond b (Some (new_hosted stage made)) (hosted_at w q)) ≡ cond b true (is_some (hosted_at w q))
       go true = refl
       go false = refl
 
-  pub made_there : (luck : Luck) (q : ℕ) → is_some (hosted_at (made_with w table schema states.Live luck) q) ≡ cond (is_at (nat_cmp table) q) true (is_some (hosted_at w q))
+  pub made_there : (luck : Luck) (q : ℕ) → is_some (hosted_at (made_with w table schema stage luck) q) ≡ cond (is_at (nat_cmp table) q) true (is_some (hosted_at w q))
   made_there messages.Done q = with_there true q
   made_there messages.FailedBefore q = with_there false q
   made_there messages.FailedAfter q = with_there false q
 
-  pub made_clients : (luck : Luck) (c : ℕ) → is_some (client_at (made_with w table schema states.Live luck) c) ≡ is_some (client_at w c)
+  pub made_clients : (luck : Luck) (c : ℕ) → is_some (client_at (made_with w table schema stage luck) c) ≡ is_some (client_at w c)
   made_clients messages.Done c = refl
   made_clients messages.FailedBefore c = refl
   made_clients messages.FailedAfter c = refl
@@ -207,63 +209,70 @@ still_out w is_out out old same = record {
 
 -- ---- the step
 
-module _ {D : Type 0} (state : D → DiskState) (images : D → ℕ → List ℕ → Type 0) (w : moves.World) (table : ℕ) (schema : Schema) (is_out out : ℕ → Bool) (it : Told) (only : IsOnly [] it) where
-  pub made_step : (old : World D) (schemas : tree.BTreeMap ℕ Schema) (store : StoreHost D) → Holds state w old → AreOut is_out w → hosted_at w table ≡ None → (1 ≤ table) × (table ≤ 64)
+module _ {D : Type 0} (state : D → DiskState) (images : D → ℕ → List ℕ → Type 0) (w : moves.World) (event : Event) (table : ℕ) (schema : Schema) (stage : TableState)
+    (declares : Declares event table schema stage) (it : Told) (only : IsOnly [] it) where
+  -- what the event makes of the world with these lucks
+  abbrev declared_with : Lucks → moves.World
+  declared_with lucks = declared w table schema stage (first_luck lucks.calls) (hosted_at w table)
+
+  declared_step : (is_out : ℕ → Bool) (old new : World D) (lucks : Lucks) → Holds state (declared_with lucks) new → AreOut is_out (declared_with lucks)
+      → AreTotals state (fails_new (hosted_at w table) lucks.calls) old new → Stays state images w event old new → IsStep state images w event it is_out old new
+  declared_step is_out old new lucks held out totals stay = let is = sym (declares.steps w lucks) in record {
+    lucks = lucks;
+    rows = stay lucks;
+    lines_are = only.lines_are ∙ ap answer_lines is;
+    outs_are = subst (λ (s : WorldStep). AreOuts (owner_of s.world) it.outs s.outs) is (no_outs_told (owner_of (declared_with lucks)) it.outs only.none);
+    held = subst (λ (s : WorldStep). Holds state s.world new) is held;
+    out = subst (λ (s : WorldStep). AreOut is_out s.world) is out;
+    rose = λ t. totals.rose (sym (declares.fails w lucks) ∙ t);
+    same = λ f. totals.same (sym (declares.fails w lucks) ∙ f);
+  }
+
+  pub made_step : (is_out out : ℕ → Bool) (old : World D) (schemas : tree.BTreeMap ℕ Schema) (store : StoreHost D) → Holds state w old → AreOut is_out w → hosted_at w table ≡ None
+      → (1 ≤ table) × (table ≤ 64)
       → ((q : ℕ) → tree.get nat_cmp schemas q ≡ cond (is_at (nat_cmp table) q) (Some schema) (tree.get nat_cmp old.schemas q))
       → ((k : ℕ) → out k ≡ with_three (first_disk table) is_out k)
-      → (luck : Luck) → HoldsStore state (made_with w table schema states.Live luck) store → IsCounted state (is_failure luck) old.store.tables store.tables → store.outs ≡ old.store.outs
-      → Stays state images w (events.Table table schema) old (record old { schemas = schemas; store = store })
-      → IsStep state images w (events.Table table schema) it out old (record old { schemas = schemas; store = store })
-  made_step old schemas store h outs none one put u luck held counted told stay = record {
-    lucks = with_calls (luck ∷ []);
-    rows = stay (with_calls (luck ∷ []));
-    lines_are = only.lines_are;
-    outs_are = no_outs_told (owner_of (step w (events.Table table schema) (with_calls (luck ∷ []))).world) it.outs only.none;
-    held = subst (λ (o : Option Hosted). Holds state (declared w table schema states.Live luck o) new) (sym none) behind;
-    rose = λ t. (tables_counted state (made_with w table schema states.Live luck) old new (is_failure luck) behind counted refl).rose (sym fails ∙ t);
-    same = λ f. (tables_counted state (made_with w table schema states.Live luck) old new (is_failure luck) behind counted refl).same (sym fails ∙ f);
-    out = subst (λ (o : Option Hosted). AreOut out (declared w table schema states.Live luck o)) (sym none)
-        (more_out w (made_with w table schema states.Live luck) table is_out out one.0 one.1 outs u (made_there state w table schema old (rest_of state w old h) none schemas put one luck)
-        (made_clients state w table schema old (rest_of state w old h) none schemas put one luck));
-  }
+      → (luck : Luck) → HoldsStore state (made_with w table schema stage luck) store → IsCounted state (is_failure luck) old.store.tables store.tables → store.outs ≡ old.store.outs
+      → Stays state images w event old (record old { schemas = schemas; store = store })
+      → IsStep state images w event it out old (record old { schemas = schemas; store = store })
+  made_step is_out out old schemas store h outs none one put u luck held counted told stay = declared_step out old new (with_calls (luck ∷ []))
+      (subst (λ (o : Option Hosted). Holds state (declared w table schema stage luck o) new) (sym none) behind)
+      (subst (λ (o : Option Hosted). AreOut out (declared w table schema stage luck o)) (sym none)
+      (more_out w after table is_out out one.0 one.1 outs u (made_there state w table schema stage old (rest_of state w old h) none schemas put one luck)
+      (made_clients state w table schema stage old (rest_of state w old h) none schemas put one luck)))
+      (subst (λ (o : Option Hosted). AreTotals state (fails_new o (luck ∷ [])) old new) (sym none) (tables_counted state after old new (is_failure luck) behind counted refl)) stay
     where
       new : World D
       new = record old { schemas = schemas; store = store }
 
-      fails : fails_new (hosted_at w table) (luck ∷ []) ≡ is_failure luck
-      fails = ap (λ (o : Option Hosted). fails_new o (luck ∷ [])) none
+      after : moves.World
+      after = made_with w table schema stage luck
 
-      again : Rest state (made_with w table schema states.Live luck) (record old { schemas = schemas }) → Rest state (made_with w table schema states.Live luck) new
+      again : Rest state after (record old { schemas = schemas }) → Rest state after new
       again x = record { schemas = x.schemas; clients = x.clients; clients_told = x.clients_told; held = x.held; numbered = x.numbered }
 
-      behind : Holds state (made_with w table schema states.Live luck) new
-      behind = whole state (made_with w table schema states.Live luck) new (again (made_rest state w table schema old (rest_of state w old h) none schemas put one luck)) held
-          (told ∙ h.store_told)
+      behind : Holds state after new
+      behind = whole state after new (again (made_rest state w table schema stage old (rest_of state w old h) none schemas put one luck)) held (told ∙ h.store_told)
 
-  stays_there : (old : World D) (hosted : Hosted) → Holds state w old → AreOut is_out w → hosted_at w table ≡ Some hosted → Stays state images w (events.Table table schema) old old
-      → IsStep state images w (events.Table table schema) it is_out old old
-  stays_there old hosted h outs at stay = record {
-    lucks = no_lucks;
-    rows = stay no_lucks;
-    lines_are = only.lines_are;
-    outs_are = no_outs_told (owner_of (step w (events.Table table schema) no_lucks).world) it.outs only.none;
-    held = subst (λ (o : Option Hosted). Holds state (declared w table schema states.Live messages.Done o) old) (sym at) h;
-    out = subst (λ (o : Option Hosted). AreOut is_out (declared w table schema states.Live messages.Done o)) (sym at) outs;
-    rose = λ t. let no : false ≡ true = sym (ap (λ (o : Option Hosted). fails_new o []) at) ∙ t in absurd cc;
-    same = λ f. refl;
-  }
+  stays_there : (is_out : ℕ → Bool) (old : World D) (hosted : Hosted) → Holds state w old → AreOut is_out w → hosted_at w table ≡ Some hosted → Stays state images w event old old
+      → IsStep state images w event it is_out old old
+  stays_there is_out old hosted h outs at stay = declared_step is_out old old no_lucks
+      (subst (λ (o : Option Hosted). Holds state (declared w table schema stage messages.Done o) old) (sym at) h)
+      (subst (λ (o : Option Hosted). AreOut is_out (declared w table schema stage messages.Done o)) (sym at) outs)
+      (subst (λ (o : Option Hosted). AreTotals state (fails_new o []) old old) (sym at) (record { rose = λ no. absurd cc; same = λ f. refl })) stay
 
-  pub stays_declared : (old : World D) → Holds state w old → AreOut is_out w → true ≡ is_some (hosted_at w table) → Stays state images w (events.Table table schema) old old
-      → IsStep state images w (events.Table table schema) it is_out old old
-  stays_declared old h outs is stay = let x = some_of (hosted_at w table) is in stays_there old x.0 h outs x.1 stay
+  pub stays_declared : (is_out : ℕ → Bool) (old : World D) → Holds state w old → AreOut is_out w → true ≡ is_some (hosted_at w table) → Stays state images w event old old
+      → IsStep state images w event it is_out old old
+  stays_declared is_out old h outs is stay = let x = some_of (hosted_at w table) is in stays_there is_out old x.0 h outs x.1 stay
 
-  pub made_ok : (old : World D) (schemas : tree.BTreeMap ℕ Schema) (store : StoreHost D) → Holds state w old → AreOut is_out w → hosted_at w table ≡ None → (1 ≤ table) × (table ≤ 64)
+  pub made_ok : (is_out out : ℕ → Bool) (old : World D) (schemas : tree.BTreeMap ℕ Schema) (store : StoreHost D) → Holds state w old → AreOut is_out w → hosted_at w table ≡ None
+      → (1 ≤ table) × (table ≤ 64)
       → ((q : ℕ) → tree.get nat_cmp schemas q ≡ cond (is_at (nat_cmp table) q) (Some schema) (tree.get nat_cmp old.schemas q))
       → ((k : ℕ) → out k ≡ with_three (first_disk table) is_out k)
-      → (luck : Luck) × HoldsStore state (made_with w table schema states.Live luck) store × IsCounted state (is_failure luck) old.store.tables store.tables → store.outs ≡ old.store.outs
-      → Stays state images w (events.Table table schema) old (record old { schemas = schemas; store = store })
-      → IsStep state images w (events.Table table schema) it out old (record old { schemas = schemas; store = store })
-  made_ok old schemas store h outs none one put u k told stay = made_step old schemas store h outs none one put u k.0 k.1 k.2 told stay
+      → (luck : Luck) × HoldsStore state (made_with w table schema stage luck) store × IsCounted state (is_failure luck) old.store.tables store.tables → store.outs ≡ old.store.outs
+      → Stays state images w event old (record old { schemas = schemas; store = store })
+      → IsStep state images w event it out old (record old { schemas = schemas; store = store })
+  made_ok is_out out old schemas store h outs none one put u k told stay = made_step is_out out old schemas store h outs none one put u k.0 k.1 k.2 told stay
 
 pub not_there : {D : Type 0} (state : D → DiskState) (w : moves.World) (table : ℕ) (world : World D) → Holds state w world → tree.get nat_cmp world.store.tables table ≡ None → hosted_at w table ≡ None
 not_there state w table world h none = not_found state w world.store.tables table h.store.tables (sym none)

@@ -153,10 +153,8 @@ module _ {D : Type 0} (state : D → DiskState) (w : moves.World) (world : World
 
 -- ---- a client that takes messages now
 
--- it isn't down in any world that is held
-pub client_up : {D : Type 0} (state : D → DiskState) (w : moves.World) (host : ClientHost D) (c : ℕ) → HoldsClients state w host → is_client_ready w c ≡ true
-    → (v : moves.World) → HoldsClients state v host → is_down v (nodes.Client c) ≡ false
-client_up {D} state w host c h ready v k = go (tree.get nat_cmp host.clients c) refl
+pub ready_up : (w : moves.World) (c : ℕ) → is_client_ready w c ≡ true → is_down w (nodes.Client c) ≡ false
+ready_up w c ready = idle_up (client_at w c) (and_second (not (is_cut w c)) (is_idle_client (client_at w c)) ready)
   where
     idle_up : (o : Option Client) → is_idle_client o ≡ true → is_client_down o ≡ false
     idle_up None e = refl
@@ -166,24 +164,33 @@ client_up {D} state w host c h ready v k = go (tree.get nat_cmp host.clients c) 
         at None is idle = let no : true ≡ false = sym idle ∙ ap is_idle is in absurd cc
         at (Some tasks) is idle = rw is refl
 
+-- one that isn't down is so in no world that is held
+pub client_stays_up : {D : Type 0} (state : D → DiskState) (w : moves.World) (host : ClientHost D) (c : ℕ) → HoldsClients state w host → is_down w (nodes.Client c) ≡ false
+    → (v : moves.World) → HoldsClients state v host → is_down v (nodes.Client c) ≡ false
+client_stays_up {D} state w host c h up v k = go (tree.get nat_cmp host.clients c) refl
+  where
     up_at : (node : ClientNode D) → Some node ≡ tree.get nat_cmp host.clients c → node.is_up ≡ true
     up_at node is = pick node.is_up refl
       where
         there : (s : Client) × (client_at w c ≡ Some s) × hosts.IsHosted state (is_cut w c) c s node
         there = found state w host.clients c h.there node is
 
-        up : is_client_down (Some there.0) ≡ false
-        up = ap is_client_down (sym there.1) ∙ idle_up (client_at w c) (and_second (not (is_cut w c)) (is_idle_client (client_at w c)) ready)
+        up_there : is_client_down (Some there.0) ≡ false
+        up_there = ap is_client_down (sym there.1) ∙ up
 
         pick : (b : Bool) → node.is_up ≡ b → node.is_up ≡ true
         pick true e = e
-        pick false e = let no : true ≡ false = sym (down_is state node there.0.disk there.0.agenda there.2.client e) ∙ up in absurd cc
+        pick false e = let no : true ≡ false = sym (down_is state node there.0.disk there.0.agenda there.2.client e) ∙ up_there in absurd cc
 
     go : (o : Option (ClientNode D)) → tree.get nat_cmp host.clients c ≡ o → is_client_down (client_at v c) ≡ false
     go None e = ap is_client_down (not_found state v host.clients c k.there (sym e)).0
     go (Some node) e =
         let there = found state v host.clients c k.there node (sym e) in
         ap is_client_down there.1 ∙ up_is state node there.0.disk there.0.agenda there.2.client (up_at node (sym e))
+
+pub client_up : {D : Type 0} (state : D → DiskState) (w : moves.World) (host : ClientHost D) (c : ℕ) → HoldsClients state w host → is_client_ready w c ≡ true
+    → (v : moves.World) → HoldsClients state v host → is_down v (nodes.Client c) ≡ false
+client_up state w host c h ready = client_stays_up state w host c h (ready_up w c ready)
 
 -- ---- a row of a table
 

@@ -1,5 +1,5 @@
 -- What a crash leaves of the rows of a world's tables, from call to call, and where that stands in the tables' histories.
-use Rattle.std.proofs.Common.{◌≡◌, ◌⊎◌, inl, inr, ⊎_elim, ℕ, List, Option, Some, Result, Ok, Err, sym, ◌∙◌, ap, subst}
+use Rattle.std.proofs.Common.{◌≡◌, ◌⊎◌, inl, inr, ⊎_elim, ℕ, zero, suc, true, List, [], ◌∷◌, Option, Some, None, Result, Ok, Err, refl, sym, ◌∙◌, ap, subst}
 use Rattle.std.specs.Prelude.{IfOk}
 use Rattle.std.specs.Ordering.{nat_cmp}
 use Rattle.std.specs.BTreeMap.{is_at}
@@ -17,11 +17,12 @@ use Rattle.table_model.specs.declared.event.Event.{Event}
 use Rattle.table_model.specs.declared.line.Answer.{Answer}
 use Rattle.step_tables.specs.Facts as facts
 use Rattle.step_tables.specs.Messages.{Luck}
-use Rattle.step_tables.specs.StoreMoves.{StoreDisk, TableStore}
+use Rattle.step_tables.specs.Store.{Stored}
+use Rattle.step_tables.specs.StoreMoves.{StoreDisk, StoreTask, TableStore, SidePut, PutState, PutSub, Place, placed, put_beside}
 use Rattle.device_laws.specs.Stands.{HasRows}
-use Rattle.world_tables.specs.Passed.{after_tasks, first_part, started_at}
+use Rattle.world_tables.specs.Passed.{IsBetween, after_tasks, first_part, started_at}
 use Rattle.world_tables.specs.Turns.{world_from}
-use Rattle.world_tables.specs.World.{Lucks, Hosted, Moved, WorldStep, schema_at, hosted_at, tasks_in, start, step, owner_of, tables_of, store_starts}
+use Rattle.world_tables.specs.World.{Lucks, Hosted, Moved, WorldStep, schema_at, hosted_at, tasks_in, start, step, owner_of, tables_of, store_starts, move_table}
 use Rattle.world_tables.specs.World as moves
 use Rattle.moment_laws.proofs.Stays.{rows_stay_before, rows_stay_between}
 use Rattle.store_host.specs.declared.hosted.Hosted.{Hosted as Kept}
@@ -29,7 +30,7 @@ use Rattle.store_host.specs.declared.host.StoreHost.{StoreHost}
 use Rattle.store_host.specs.Calls.{restart_moves}
 use Rattle.store_host.specs.Holds.{HostedThere, HoldsTables, HoldsStore, AreLeft}
 use Rattle.store_host.proofs.Maps.{found}
-use Rattle.store_host.proofs.Froms.{IsFrom}
+use Rattle.store_host.proofs.Froms.{IsFrom, move_from}
 use Rattle.store_host.proofs.Lefts.{still_left, none_still, between}
 use Rattle.node_steps.specs.declared.fault.WorldFault.{WorldFault}
 use Rattle.node_steps.specs.declared.told.Told.{Told}
@@ -61,6 +62,33 @@ module _ {D : Type 0} (P : tree.BTreeMap ℕ (Kept D) → Type 0) where
 pub any_ok : {A : Type 0} (result : Result A WorldFault) (P : Type 0) → P → IfOk result (λ x. P)
 any_ok (Err e) P p = tt
 any_ok (Ok x) P p = p
+
+-- ---- what is put beside the rows of a table
+
+-- the items of a table behind each of its next writes are those behind one that it had
+abbrev pub ItemsFrom : TableStore → TableStore → Type 0
+ItemsFrom s t = (k : ℕ) → (m : ℕ) × ((after_tasks k t.disk (tasks_in t.agenda)).items ≡ (after_tasks m s.disk (tasks_in s.agenda)).items)
+
+items_itself : (s : TableStore) → ItemsFrom s s
+items_itself s k = (k, refl)
+
+none_after : (k : ℕ) (disk : StoreDisk) → after_tasks k disk [] ≡ disk
+none_after zero disk = refl
+none_after (suc k) disk = refl
+
+-- what is put beside rows has none
+put_items : (disk : StoreDisk) (put : SidePut) → (put_beside disk put).items ≡ disk.items
+put_items disk (PutState stage) = refl
+put_items disk (PutSub client terms) = refl
+
+placed_items : (table : ℕ) (disk : StoreDisk) (agenda : Option (List StoreTask)) (put : SidePut) → ItemsFrom (record { disk = disk; agenda = agenda }) (placed table disk agenda put).store
+placed_items table disk None put k = (k, refl)
+placed_items table disk (Some (task ∷ tasks)) put k = (k, refl)
+placed_items table disk (Some []) put zero = (0, refl)
+placed_items table disk (Some []) put (suc k) = (0, ap (λ (d : StoreDisk). d.items) (none_after k (put_beside disk put)) ∙ put_items disk put)
+
+pub place_from : (put : SidePut) (w : moves.World) (table : ℕ) → IsFrom ItemsFrom w (move_table table (Place put) w).world
+place_from put w table = move_from ItemsFrom items_itself (Place put) (λ v t hosted. placed_items t hosted.store.disk hosted.store.agenda put) w table
 
 module _ {D : Type 0} (state : D → DiskState) (images : D → ℕ → List ℕ → Type 0) where
   abbrev st : FuseDisk D → DiskState
@@ -141,12 +169,33 @@ module _ {D : Type 0} (state : D → DiskState) (images : D → ℕ → List ℕ
         between = rows_stay_between r.run event lucks table x.some.0 before x.hosted after (table_at table before at) (first_at table x.hosted x.at) (behind_at table after there);
       }
 
+      -- a world whose tables have the items of this one
+      other_between : (v : moves.World) → IsFrom ItemsFrom w v → before.made ≡ true → HasSomeAt v table schema held → HasRowsBetween schema before.history after.history held
+      other_between v from made x =
+          let f = from.there table before at made in
+          let later : Some f.0 ≡ Some x.hosted = sym f.1 ∙ x.at in
+          let k = subst (λ (h : Hosted). ItemsFrom before.store h.store) (some_same f.0 x.hosted later) f.3 x.some.0 in
+          record {
+            disk = after_tasks x.some.0 x.hosted.store.disk (tasks_in x.hosted.store.agenda);
+            rows = x.some.1;
+            between = subst (λ (items : List Stored). IsBetween before.history after.history items) (sym k.1)
+                (rows_stay_before r.run event lucks table k.0 before after (table_at table before at) (behind_at table after there));
+          }
+
     -- what is left in an event is between the histories before and behind it
     pub stay_over : (old new : World D) → AreLeftOver state images w (first_part w event lucks) old.store.tables new.store.tables → RowsStay state images w (step w event lucks).world old new
     stay_over old new k table before after was is at made there from to =
         rows_weaker st im was.node.devs is.node.devs (λ held. HasSome before was.node.schema held ⊎ HasSomeAt (first_part w event lucks) table was.node.schema held)
         (HasRowsBetween was.node.schema before.history after.history) (k.rows table before was is at made from to)
         (λ held x. ⊎_elim (then_between table before after at there was.node.schema held) (first_between table before after at there was.node.schema held) x)
+
+    -- so is what is left of a world whose tables have the items of the first one
+    pub stay_from : (v : moves.World) → IsFrom ItemsFrom w v → (old new : World D) → AreLeftOver state images w v old.store.tables new.store.tables
+        → RowsStay state images w (step w event lucks).world old new
+    stay_from v from old new k table before after was is at made there first last =
+        rows_weaker st im was.node.devs is.node.devs (λ held. HasSome before was.node.schema held ⊎ HasSomeAt v table was.node.schema held)
+        (HasRowsBetween was.node.schema before.history after.history) (k.rows table before was is at made first last)
+        (λ held x. ⊎_elim (then_between table before after at there was.node.schema held) (other_between table before after at there was.node.schema held v from made) x)
 
   abbrev pub Stays : moves.World → Event → World D → World D → Type 0
   Stays w event old new = (lucks : Lucks) → RowsStay state images w (step w event lucks).world old new
@@ -158,6 +207,16 @@ module _ {D : Type 0} (state : D → DiskState) (images : D → ℕ → List ℕ
         go : (x : Result Told WorldFault) → IfOk x (λ told. AreLeft state images w old.store.tables new.store.tables) → IfOk x (λ told. Stays w event old new)
         go (Err e) k = tt
         go (Ok told) k = λ lucks. stay_over w r event lucks old new (over_first w (first_part w event lucks) old.store.tables new.store.tables k)
+
+    -- something is put beside the rows of a table
+    pub stay_placed : (table : ℕ) (put : SidePut) → IfOk result (λ told. AreLeftOver state images w (move_table table (Place put) w).world old.store.tables new.store.tables)
+        → IfOk result (λ told. Stays w event old new)
+    stay_placed table put k = go result k
+      where
+        go : (x : Result Told WorldFault) → IfOk x (λ told. AreLeftOver state images w (move_table table (Place put) w).world old.store.tables new.store.tables)
+            → IfOk x (λ told. Stays w event old new)
+        go (Err e) k = tt
+        go (Ok told) k = λ lucks. stay_from w r event lucks (move_table table (Place put) w).world (place_from put w table) old new k
 
     -- the Stores do nothing
     pub stay_still : ((disk : D) (image : List ℕ) → images disk (state disk).moment image → IsImage (state disk).pending image) → Holds state w old → IfOk result (λ told. new.store ≡ old.store)

@@ -1,4 +1,4 @@
--- What a message for a table, or a look at a row, comes to at its Store.
+-- What a move of a table, as a message for it, or a look at a row, comes to at its Store.
 use Rattle.std.proofs.Common.{◌≡◌, ℕ, Bool, true, false, List, [], ◌∷◌, ◌++◌, Option, Some, None, Result, Ok, Err, refl, sym, ◌∙◌, ap, subst, append-nil, append_assoc}
 use Rattle.std.specs.Prelude.{if◌then◌else◌, ◌||◌, ◌&&◌, ◌==◌, nat_lt, option_map, IfOk, IfErr, is_some}
 use Rattle.std.specs.Ordering.{nat_cmp}
@@ -14,11 +14,12 @@ use Rattle.step_tables.specs.declared.message.Message.{Message}
 use Rattle.step_tables.specs.declared.message.Message.TheVariants as kinds
 use Rattle.step_tables.specs.Facts as facts
 use Rattle.step_tables.specs.Lines.{answer_of}
-use Rattle.step_tables.specs.Messages.{Luck, Request, Pair, table_of}
+use Rattle.step_tables.specs.Messages.{Luck, Request, Pair}
 use Rattle.step_tables.specs.Messages as messages
 use Rattle.step_tables.specs.Store.{Stored, current_of}
 use Rattle.step_tables.specs.Chunks.{is_spelled}
-use Rattle.step_tables.specs.StoreMoves.{StoreDisk, StoreTask, Take, taken, asked, decided, judged, takes, keeps_there, version_of, version_at, yours_in}
+use Rattle.step_tables.specs.StoreMoves.{StoreDisk, StoreTask, StoreMove, StoreStep, SidePut, Take, Place, store_step, taken, asked, decided, judged, takes, keeps_there, version_of, version_at}
+use Rattle.step_tables.specs.StoreMoves.{yours_in}
 use Rattle.step_tables.specs.StoreMoves as store
 use Rattle.store_node.specs.Calls.{IsAtWork}
 use Rattle.store_node.specs.Reading.{shown_of}
@@ -27,7 +28,7 @@ use Rattle.store_host.specs.declared.host.StoreHost.{StoreHost}
 use Rattle.store_host.specs.Holds.{HoldsStore, outs_of, outs_in, says_something, said_by}
 use Rattle.store_host.specs.Calls.{IsMoved, IsBusyWith, IsSpentIn}
 use Rattle.world_tables.specs.World.{World, Moved, Outbox, Packet, Hosted, owner_of, hosted_at, schema_at, scheme_in, chunk_in, still, and_then, failing, is_fault, table_step}
-use Rattle.world_tables.specs.World.{move_table, move_hosted, store_falls, store_follows, has_node}
+use Rattle.world_tables.specs.World.{after_table, answering, move_table, move_hosted, store_falls, store_follows, has_node}
 use Rattle.world_tables.specs.World.{table_follows, is_at_work, to_hosted, take_at, row_shown}
 use Rattle.node_steps.specs.declared.fault.WorldFault.{WorldFault}
 use Rattle.node_steps.specs.declared.fault.WorldFault.TheVariants.{Limit as LimitPassed}
@@ -102,105 +103,118 @@ same_store {D} state w it table hosted at packets h =
     subst (λ (tables : List (ℕ × Hosted)). HoldsStore state (record w { tables = tables; packets = packets }) it) (sym (entry_kept w.tables table hosted h.tables.rising at))
     (store_stays state w it w.clients packets w.holds w.cuts w.phases h)
 
--- ---- a message
+-- ---- a move that a table with no writes to do answers as done, and that one with some refuses
 
-module _ {D : Type 0} (state : D → DiskState) (w : World) (old : StoreHost D) (h : HoldsStore state w old) (from : Node) (m : messages.Message) where
-  pub lost : hosted_at w (table_of m) ≡ None → (given : Answer) → answer_of given ≡ facts.Done → (lucks : List Luck) × IsTakenAs state w from m lucks old old given
+pub record IsTaking (move : StoreMove) : Type 0 where
+  pub when_idle : (number : ℕ) (g : Scheme) (size table : ℕ) (d : StoreDisk) → (store_step number g size table (record { disk = d; agenda = Some [] }) move).answer ≡ facts.Done
+  pub when_busy : (number : ℕ) (g : Scheme) (size table : ℕ) (d : StoreDisk) (task : StoreTask) (more : List StoreTask)
+      → store_step number g size table (record { disk = d; agenda = Some (task ∷ more) }) move ≡ store.quiet d (Some (task ∷ more)) (facts.Refuses (facts.Busy (version_at d task.change)))
+
+pub takes_message : (from : Node) (m : messages.Message) → IsTaking (Take from m)
+takes_message from m = record { when_idle = λ number g size table d. taken_done g size table d from m; when_busy = λ number g size table d task more. refl }
+
+pub takes_put : (put : SidePut) → IsTaking (Place put)
+takes_put put = record { when_idle = λ number g size table d. refl; when_busy = λ number g size table d task more. refl }
+
+module _ {D : Type 0} (state : D → DiskState) (w : World) (old : StoreHost D) (h : HoldsStore state w old) (table : ℕ) (move : StoreMove) where
+  pub lost : hosted_at w table ≡ None → (given : Answer) → answer_of given ≡ facts.Done → (lucks : List Luck) × IsTakenAs state w table move lucks old old given
   lost at given is = (
     [],
     record {
       answer = facts.Done;
       moves = still w;
-      step_is = ap (to_hosted w (table_of m) (Take from m) []) at;
+      step_is = ap (to_hosted w table move []) at;
       answered = record { moved = record { held = h; outs = sym (append-nil (outs_of old)) }; answer_is = is };
       goes = still_goes w;
     },
   )
 
-  module _ (hosted : Hosted) (at : hosted_at w (table_of m) ≡ Some hosted) where
-    idle_done : hosted.store.agenda ≡ Some [] → (table_step w (table_of m) hosted (Take from m)).answer ≡ facts.Done
-    idle_done idle =
-        ap (λ (a : Option (List StoreTask)). (taken (scheme_in (schema_at w (table_of m))) (chunk_in (schema_at w (table_of m))) (table_of m) hosted.store.disk a from m).answer) idle
-        ∙ taken_done (scheme_in (schema_at w (table_of m))) (chunk_in (schema_at w (table_of m))) (table_of m) hosted.store.disk from m
+  module _ (hosted : Hosted) (at : hosted_at w table ≡ Some hosted) where
+    idle_done : IsTaking move → hosted.store.agenda ≡ Some [] → (table_step w table hosted move).answer ≡ facts.Done
+    idle_done t idle =
+        ap (λ (a : Option (List StoreTask)). (store_step (owner_of w table) (scheme_in (schema_at w table)) (chunk_in (schema_at w table)) table (record { disk = hosted.store.disk; agenda = a }) move).answer) idle
+        ∙ t.when_idle (owner_of w table) (scheme_in (schema_at w table)) (chunk_in (schema_at w table)) table hosted.store.disk
 
-    idle_well : hosted.store.agenda ≡ Some [] → (move_table (table_of m) (Take from m) w).failed ≡ false
-    idle_well idle = ap (λ (o : Option Hosted). (move_hosted w (table_of m) (Take from m) o).failed) at ∙ ap is_fault (idle_done idle)
+    idle_well : IsTaking move → hosted.store.agenda ≡ Some [] → (move_table table move w).failed ≡ false
+    idle_well t idle = ap (λ (o : Option Hosted). (move_hosted w table move o).failed) at ∙ ap is_fault (idle_done t idle)
 
-    pub done : (mid new : StoreHost D) → hosted.store.agenda ≡ Some [] → IsMoved state old mid (move_table (table_of m) (Take from m) w) → (lucks : List Luck) (given : Answer)
-        → IsAnswered state mid new facts.Done (table_follows (table_of m) lucks (move_table (table_of m) (Take from m) w).world) given
-        → (all : List Luck) × IsTakenAs state w from m all old new given
-    done mid new idle moved lucks given k =
-        let mv : Moved = move_table (table_of m) (Take from m) w in (
+    pub done : IsTaking move → (mid new : StoreHost D) → hosted.store.agenda ≡ Some [] → IsMoved state old mid (move_table table move w) → (lucks : List Luck) (given : Answer)
+        → IsAnswered state mid new facts.Done (table_follows table lucks (move_table table move w).world) given
+        → (all : List Luck) × IsTakenAs state w table move all old new given
+    done t mid new idle moved lucks given k =
+        let mv : Moved = move_table table move w in (
           messages.Done ∷ lucks,
           record {
-            answer = (table_step w (table_of m) hosted (Take from m)).answer;
-            moves = and_then mv (table_follows (table_of m) lucks);
-            step_is = ap (to_hosted w (table_of m) (Take from m) (messages.Done ∷ lucks)) at ∙ ap (take_at w (table_of m) hosted (Take from m) (messages.Done ∷ lucks)) idle;
-            answered = then_answered state old mid new mv (table_follows (table_of m) lucks) (table_step w (table_of m) hosted (Take from m)).answer given moved (idle_well idle) (idle_done idle) k;
-            goes = then_goes w mv (table_follows (table_of m) lucks) (table_goes w (table_of m) (Take from m)) (table_follows_goes (table_of m) lucks mv.world);
+            answer = (table_step w table hosted move).answer;
+            moves = and_then mv (table_follows table lucks);
+            step_is = ap (to_hosted w table move (messages.Done ∷ lucks)) at ∙ ap (take_at w table hosted move (messages.Done ∷ lucks)) idle;
+            answered = then_answered state old mid new mv (table_follows table lucks) (table_step w table hosted move).answer given moved (idle_well t idle) (idle_done t idle) k;
+            goes = then_goes w mv (table_follows table lucks) (table_goes w table move) (table_follows_goes table lucks mv.world);
           },
         )
 
-    pub fallen : (new : StoreHost D) → hosted.store.agenda ≡ Some [] → IsMoved state old new (store_falls (owner_of w (table_of m)) w) → (given : Answer) → answer_of given ≡ facts.Refuses facts.NoDevice
-        → (all : List Luck) × IsTakenAs state w from m all old new given
+    pub fallen : (new : StoreHost D) → hosted.store.agenda ≡ Some [] → IsMoved state old new (store_falls (owner_of w table) w) → (given : Answer) → answer_of given ≡ facts.Refuses facts.NoDevice
+        → (all : List Luck) × IsTakenAs state w table move all old new given
     fallen new idle moved given is = (
       messages.FailedBefore ∷ [],
       record {
         answer = facts.Done;
-        moves = failing (store_falls (owner_of w (table_of m)) w);
-        step_is = ap (to_hosted w (table_of m) (Take from m) (messages.FailedBefore ∷ [])) at ∙ ap (take_at w (table_of m) hosted (Take from m) (messages.FailedBefore ∷ [])) idle;
+        moves = failing (store_falls (owner_of w table) w);
+        step_is = ap (to_hosted w table move (messages.FailedBefore ∷ [])) at ∙ ap (take_at w table hosted move (messages.FailedBefore ∷ [])) idle;
         answered = record { moved = record { held = moved.held; outs = moved.outs }; answer_is = is };
-        goes = failing_goes w (store_falls (owner_of w (table_of m)) w) (store_falls_goes (owner_of w (table_of m)) w);
+        goes = failing_goes w (store_falls (owner_of w table) w) (store_falls_goes (owner_of w table) w);
       },
     )
 
-  pub done_ok : (number : ℕ) (mid new : StoreHost D) (hosted : Hosted) → hosted_at w (table_of m) ≡ Some hosted → hosted.store.agenda ≡ Some []
-      → IsMoved state old mid (move_table (table_of m) (Take from m) w) → (is_held : Bool) → owner_of w (table_of m) ≡ number → is_held ≡ has_node w.holds (nodes.Store number)
-      → (table : ℕ) → table ≡ table_of m → (result : Result Answer WorldFault)
-      → ((x : World) → HoldsStore state x mid → owner_of x table ≡ number → is_held ≡ has_node x.holds (nodes.Store number) → IfOk result
-      (λ given. (lucks : List Luck) × IsAnswered state mid new facts.Done (table_follows table lucks x) given))
-      → IfOk result (λ given. (all : List Luck) × IsTakenAs state w from m all old new given)
-  done_ok number mid new hosted at idle moved is_held own is table same (Err e) k = tt
-  done_ok number mid new hosted at idle moved is_held own is table same (Ok given) k =
-      let after : Moved = move_table (table_of m) (Take from m) w in
-      let goes = table_goes w (table_of m) (Take from m) in
-      let x = k after.world moved.held (ap (λ (f : ℕ → ℕ). f table) (owners_stay w after goes) ∙ (ap (owner_of w) same ∙ own)) (is ∙ ap (λ (ns : List Node). has_node ns (nodes.Store number)) (sym goes.holds)) in
-      done hosted at mid new idle moved x.0 given (subst (λ (t : ℕ). IsAnswered state mid new facts.Done (table_follows t x.0 after.world) given) same x.1)
+  pub done_ok : IsTaking move → (number : ℕ) (mid new : StoreHost D) (hosted : Hosted) → hosted_at w table ≡ Some hosted → hosted.store.agenda ≡ Some []
+      → IsMoved state old mid (move_table table move w) → (is_held : Bool) → owner_of w table ≡ number → is_held ≡ has_node w.holds (nodes.Store number)
+      → (named : ℕ) → named ≡ table → (result : Result Answer WorldFault)
+      → ((x : World) → HoldsStore state x mid → owner_of x named ≡ number → is_held ≡ has_node x.holds (nodes.Store number) → IfOk result
+      (λ given. (lucks : List Luck) × IsAnswered state mid new facts.Done (table_follows named lucks x) given))
+      → IfOk result (λ given. (all : List Luck) × IsTakenAs state w table move all old new given)
+  done_ok t number mid new hosted at idle moved is_held own is named same (Err e) k = tt
+  done_ok t number mid new hosted at idle moved is_held own is named same (Ok given) k =
+      let after : Moved = move_table table move w in
+      let goes = table_goes w table move in
+      let x = k after.world moved.held (ap (λ (f : ℕ → ℕ). f named) (owners_stay w after goes) ∙ (ap (owner_of w) same ∙ own)) (is ∙ ap (λ (ns : List Node). has_node ns (nodes.Store number)) (sym goes.holds)) in
+      done hosted at t mid new idle moved x.0 given (subst (λ (n : ℕ). IsAnswered state mid new facts.Done (table_follows n x.0 after.world) given) same x.1)
 
-  pub ok_there : (new : StoreHost D) (table : ℕ) → table ≡ table_of m → true ≡ is_some (hosted_at w table) → (result : Result Answer WorldFault)
-      → ((hosted : Hosted) → hosted_at w (table_of m) ≡ Some hosted → IfOk result (λ given. (all : List Luck) × IsTakenAs state w from m all old new given))
-      → IfOk result (λ given. (all : List Luck) × IsTakenAs state w from m all old new given)
-  ok_there new table same is result k = let x = some_of (hosted_at w (table_of m)) (is ∙ ap (λ (t : ℕ). is_some (hosted_at w t)) same) in k x.0 x.1
+  pub ok_there : (new : StoreHost D) (named : ℕ) → named ≡ table → true ≡ is_some (hosted_at w named) → (result : Result Answer WorldFault)
+      → ((hosted : Hosted) → hosted_at w table ≡ Some hosted → IfOk result (λ given. (all : List Luck) × IsTakenAs state w table move all old new given))
+      → IfOk result (λ given. (all : List Luck) × IsTakenAs state w table move all old new given)
+  ok_there new named same is result k = let x = some_of (hosted_at w table) (is ∙ ap (λ (t : ℕ). is_some (hosted_at w t)) same) in k x.0 x.1
 
-  busy_at : (disk : StoreDisk) (task : StoreTask) (more : List StoreTask) (history : List Entry) (made : Bool)
-      → hosted_at w (table_of m) ≡ Some (record { store = record { disk = disk; agenda = Some (task ∷ more) }; history = history; made = made }) → (new : StoreHost D)
+  busy_at : IsTaking move → (disk : StoreDisk) (task : StoreTask) (more : List StoreTask) (history : List Entry) (made : Bool)
+      → hosted_at w table ≡ Some (record { store = record { disk = disk; agenda = Some (task ∷ more) }; history = history; made = made }) → (new : StoreHost D)
       → HoldsStore state w new → new.outs ≡ old.outs → (given : Answer) → answer_of given ≡ facts.Refuses (facts.Busy (version_at disk task.change))
-      → (all : List Luck) × IsTakenAs state w from m all old new given
-  busy_at disk task more history made at new held outs given is =
+      → (all : List Luck) × IsTakenAs state w table move all old new given
+  busy_at t disk task more history made at new held outs given is =
       let hosted : Hosted = record { store = record { disk = disk; agenda = Some (task ∷ more) }; history = history; made = made } in
-      let mv : Moved = move_hosted w (table_of m) (Take from m) (Some hosted) in
-      let whole : move_table (table_of m) (Take from m) w ≡ mv = ap (move_hosted w (table_of m) (Take from m)) at in (
+      let refuses : table_step w table hosted move ≡ store.quiet disk (Some (task ∷ more)) (facts.Refuses (facts.Busy (version_at disk task.change)))
+      = t.when_busy (owner_of w table) (scheme_in (schema_at w table)) (chunk_in (schema_at w table)) table disk task more in
+      let mv : Moved = after_table w table hosted (store.quiet disk (Some (task ∷ more)) (facts.Refuses (facts.Busy (version_at disk task.change)))) in
+      let whole : move_table table move w ≡ mv = ap (move_hosted w table move) at ∙ ap (after_table w table hosted) refuses in (
         [],
         record {
           answer = facts.Refuses (facts.Busy (version_at disk task.change));
-          moves = move_table (table_of m) (Take from m) w;
-          step_is = ap (to_hosted w (table_of m) (Take from m) []) at;
+          moves = move_table table move w;
+          step_is = ap (to_hosted w table move []) at ∙ ap (λ (s : StoreStep). answering s.answer (move_table table move w)) refuses;
           answered = subst (λ (x : Moved). IsAnswered state old new (facts.Refuses (facts.Busy (version_at disk task.change))) x given) (sym whole) (record {
-            moved = record { held = same_store state w new (table_of m) hosted at (w.packets ++ []) held; outs = ap outs_in outs ∙ sym (append-nil (outs_of old)) };
+            moved = record { held = same_store state w new table hosted at (w.packets ++ []) held; outs = ap outs_in outs ∙ sym (append-nil (outs_of old)) };
             answer_is = is;
           });
-          goes = table_goes w (table_of m) (Take from m);
+          goes = table_goes w table move;
         },
       )
 
-  pub busy : (version : ℕ) → IsBusyWith w (table_of m) version → (new : StoreHost D) → HoldsStore state w new → new.outs ≡ old.outs → (given : Answer) → answer_of given ≡ facts.Refuses (facts.Busy version)
-      → (all : List Luck) × IsTakenAs state w from m all old new given
-  busy version (hosted, at, work) new held outs given is = go hosted.store.agenda refl work
+  pub busy : IsTaking move → (version : ℕ) → IsBusyWith w table version → (new : StoreHost D) → HoldsStore state w new → new.outs ≡ old.outs → (given : Answer)
+      → answer_of given ≡ facts.Refuses (facts.Busy version) → (all : List Luck) × IsTakenAs state w table move all old new given
+  busy t version (hosted, at, work) new held outs given is = go hosted.store.agenda refl work
     where
-      go : (agenda : Option (List StoreTask)) → hosted.store.agenda ≡ agenda → IsAtWork hosted.store.disk agenda version → (all : List Luck) × IsTakenAs state w from m all old new given
+      go : (agenda : Option (List StoreTask)) → hosted.store.agenda ≡ agenda → IsAtWork hosted.store.disk agenda version → (all : List Luck) × IsTakenAs state w table move all old new given
       go None e work = absurd work
       go (Some []) e work = absurd work
-      go (Some (task ∷ more)) e work = busy_at hosted.store.disk task more hosted.history hosted.made
+      go (Some (task ∷ more)) e work = busy_at t hosted.store.disk task more hosted.history hosted.made
           (at ∙ ap (λ (a : Option (List StoreTask)). Some (record { store = record { disk = hosted.store.disk; agenda = a }; history = hosted.history; made = hosted.made })) e) new held outs given
           (is ∙ ap (λ (n : ℕ). facts.Refuses (facts.Busy n)) work)
 

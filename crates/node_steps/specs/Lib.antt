@@ -12,3 +12,4 @@ pub mod Calls
 pub mod Fits
 pub mod Rows
 pub mod Reads
+pub mod Declaring

@@ -3,10 +3,9 @@ use Rattle.std.specs.Prelude.{◌≡◌, ℕ, List, is_some, if◌then◌else◌
 use Rattle.disk_trait.specs.Calls.{DiskState}
 use Rattle.table_model.specs.declared.line.Answer.{Answer}
 use Rattle.step_tables.specs.Facts as facts
-use Rattle.step_tables.specs.Messages.{Message, Luck, table_of}
+use Rattle.step_tables.specs.Messages.{Luck}
 use Rattle.step_tables.specs.Messages as messages
-use Rattle.step_tables.specs.StoreMoves.{Take}
-use Rattle.stab_base.specs.declared.node.Node.{Node}
+use Rattle.step_tables.specs.StoreMoves.{StoreMove}
 use Rattle.step_tables.specs.Lines.{answer_of}
 use Rattle.world_tables.specs.World.{World, Moved, still, failing, store_falls, owner_of, to_hosted, hosted_at}
 use Rattle.world_tables.specs.World.{answering}
@@ -29,13 +28,13 @@ pub record IsAnswered {D : Type 0} (state : D → DiskState) (old new : StoreHos
   pub moved : IsMoved state old new m
   pub answer_is : answer_of given ≡ (if m.failed then facts.Refuses facts.NoDevice else answer)
 
--- The same of a message for one of its tables: what the world makes of it is the answer to these moves.
-pub record IsTakenAs {D : Type 0} (state : D → DiskState) (w : World) (from : Node) (message : Message)
+-- The same of a move of one of its tables, if the table is there: what the world makes of it is the answer to these
+-- moves.
+pub record IsTakenAs {D : Type 0} (state : D → DiskState) (w : World) (table : ℕ) (move : StoreMove)
     (lucks : List Luck) (old new : StoreHost D) (given : Answer) : Type 0 where
   pub answer : facts.Answer
   pub moves : Moved
-  pub step_is : to_hosted w (table_of message) (Take from message) lucks (hosted_at w (table_of message))
-      ≡ answering answer moves
+  pub step_is : to_hosted w table move lucks (hosted_at w table) ≡ answering answer moves
   pub answered : IsAnswered state old new answer moves given
   pub goes : Goes w moves
 

@@ -2,6 +2,8 @@
 use Rattle.std.specs.Prelude.{◌≡◌, ◌⊎◌, ℕ, suc, ◌+◌, ◌<◌, ◌≤◌, Bool, true, false, List, map, length, Some}
 use Rattle.disk_trait.specs.Calls.{DiskState}
 use Rattle.stab_base.specs.declared.limits.TheConstants.{NUMBER_MAX}
+use Rattle.stab_base.specs.declared.node.Node.{Node}
+use Rattle.stab_base.specs.declared.node.Node.TheVariants as nodes
 use Rattle.table_model.specs.declared.event.Event.{Event}
 use Rattle.table_model.specs.declared.event.Event.TheVariants as events
 use Rattle.step_tables.specs.Lines.{line_of}
@@ -61,6 +63,11 @@ abbrev pub may_begin : moves.World → Event → ℕ
 may_begin w (events.ResolveAll client table by) = suc (length (client_pairs (client_at w client) table))
 may_begin w other = 1
 
+-- a client that is to open or to close a table needs a number of a plan; no other node does
+abbrev pub SpendsAt : ℕ → moves.World → Node → Type 0
+SpendsAt n w (nodes.Client c) = SpendsNumber n w c
+SpendsAt n w other = ⊥
+
 -- A number of a write or of a plan, or a version, above the last would be needed, where so many plans were begun.
 abbrev pub Spends : ℕ → moves.World → Event → Type 0
 Spends n w (events.Write client table row content) = SpendsNumber n w client
@@ -75,5 +82,7 @@ Spends n w (events.EndCr client table) = SpendsNumber n w client
 Spends n w (events.Resolve client table row seen choice) = SpendsNumber n w client
 Spends n w (events.ResolveAll client table by) =
     SpendsWithin n (length (client_pairs (client_at w client) table)) w client
+Spends n w (events.Create node table) = SpendsAt n w node
+Spends n w (events.Drop node table) = SpendsAt n w node
 Spends n w (events.Deliver packet) = IsFull w ⊎ ((c : ℕ) × SpendsNumber n w c)
 Spends n w other = ⊥

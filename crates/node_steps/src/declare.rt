@@ -4,12 +4,14 @@ ghost use Rattle.std.specs.Prelude.{IfOk, IfErr, OnOk, OnErr};
 ghost use Rattle.std.specs.Ordering.{nat_cmp};
 ghost use Rattle.std.specs.BTreeMap as tree;
 ghost use Rattle.disk_trait.specs.Calls.{IsCounted};
+ghost use Rattle.table_model.specs.declared.event.Event.{Event};
 ghost use Rattle.table_model.specs.declared.event.Event.TheVariants as events;
 ghost use Rattle.world_tables.specs.World.{World as AWorld, step};
 ghost use Rattle.node_steps.specs.declared.fault.WorldFault.TheVariants.{Depot as DepotFailed, Memory};
 ghost use Rattle.row_store.specs.Spelling.{IsClient};
 ghost use Rattle.fair_laws.specs.Reached.{IsMade, IsReached};
 ghost use Rattle.fair_laws.specs.Worlds.{IsFair};
+ghost use Rattle.node_steps.specs.Declaring.{Declares};
 ghost use Rattle.node_steps.specs.Holds.{Holds, AreOut};
 ghost use Rattle.store_host.specs.Holds.{AreLeft};
 ghost use Rattle.store_host.specs.Steps.{faults_of};
@@ -23,6 +25,7 @@ use crate::world::World;
 use disk_trait::{Depot, DepotFault, Disk};
 use row_value::{ClientNo, Schema, TableNo};
 use stab_base::StoreNo;
+use table_model::TableState;
 
 // A disk of the depot.
 fn hand_out<P: Depot>(depot: &mut P, number: u32) -> Result<P::Disk, WorldFault>
@@ -109,18 +112,20 @@ impl<D: Disk + Drop> World<D> {
         }
     }
 
-    /// Declares a table; one that is there stays as it is.
+    /// Declares a table in this state; one that is there stays as it is.
     pub(crate) fn declare<P: Depot<Disk = D>>(
         &mut self,
         depot: &mut P,
         table: TableNo,
         schema: &Schema,
+        state: TableState,
     ) -> Result<Told, WorldFault>
         requires made { IsMade table schema.now }
         requires held { (w : AWorld) × Holds D.state w self.old × AreOut (P.state depot.old).is_out w }
-        ensures done { (w : AWorld) → IsReached w → Holds D.state w self.old → AreOut (P.state depot.old).is_out w
-            → IfOk result (λ told. IsStep D.state D.images w (events.Table table schema.now) told
-            (P.state depot.new).is_out self.old self.new) }
+        ensures done { (w : AWorld) (event : Event) → Declares event table schema.now state → IsReached w
+            → Holds D.state w self.old → AreOut (P.state depot.old).is_out w
+            → IfOk result (λ told. IsStep D.state D.images w event told (P.state depot.new).is_out self.old
+            self.new) }
         ensures left { (w : AWorld) → Holds D.state w self.old → AreOut (P.state depot.old).is_out w
             → IfErr result (λ e. e ≢ Memory → IsUndone D.state w (P.state depot.new).is_out self.old self.new) }
         ensures clients { self.new.clients ≡ self.old.clients }
@@ -130,7 +135,7 @@ impl<D: Disk + Drop> World<D> {
         if self.store.has(table) {
             return Ok(self.silent());
         }
-        self.add_table(depot, table, schema)
+        self.add_table(depot, table, schema, state)
     }
 
     fn add_table<P: Depot<Disk = D>>(
@@ -138,13 +143,15 @@ impl<D: Disk + Drop> World<D> {
         depot: &mut P,
         table: TableNo,
         schema: &Schema,
+        state: TableState,
     ) -> Result<Told, WorldFault>
         requires made { IsMade table schema.now }
         requires held { (w : AWorld) × Holds D.state w self.old × AreOut (P.state depot.old).is_out w }
         requires absent { tree.get nat_cmp self.old.store.tables table ≡ None }
-        ensures done { (w : AWorld) → IsReached w → Holds D.state w self.old → AreOut (P.state depot.old).is_out w
-            → IfOk result (λ told. IsStep D.state D.images w (events.Table table schema.now) told
-            (P.state depot.new).is_out self.old self.new) }
+        ensures done { (w : AWorld) (event : Event) → Declares event table schema.now state → IsReached w
+            → Holds D.state w self.old → AreOut (P.state depot.old).is_out w
+            → IfOk result (λ told. IsStep D.state D.images w event told (P.state depot.new).is_out self.old
+            self.new) }
         ensures left { (w : AWorld) → Holds D.state w self.old → AreOut (P.state depot.old).is_out w
             → IfErr result (λ e. e ≢ Memory → IsUndone D.state w (P.state depot.new).is_out self.old self.new) }
         ensures clients { self.new.clients ≡ self.old.clients }
@@ -155,7 +162,7 @@ impl<D: Disk + Drop> World<D> {
         let own = schema.copy()?;
         let disks = hand_out_three(depot, 3 * (table - 1))?;
         self.schemas.insert(table, known)?;
-        add(&mut self.store, table, own, disks)?;
+        add(&mut self.store, table, own, state, disks)?;
         Ok(self.silent())
     }
 

@@ -1,6 +1,7 @@
 //! The nodes of a world: the tables of Stores and the clients on their disks. What they send is handed over.
 #![tactic(auto)]
 
+mod altering;
 mod asking;
 mod calls;
 mod carrying;

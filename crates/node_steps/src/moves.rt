@@ -4,11 +4,10 @@ ghost use Rattle.std.specs.Prelude.{false};
 ghost use Rattle.std.specs.Ordering.{nat_cmp};
 ghost use Rattle.std.specs.BTreeMap as tree;
 ghost use Rattle.stab_base.specs.declared.node.Node.TheVariants as nodes;
-ghost use Rattle.table_model.specs.declared.table_state.TableState.TheVariants as states;
 ghost use Rattle.step_tables.specs.Facts as moves;
 ghost use Rattle.step_tables.specs.Messages.{Luck, table_of};
 ghost use Rattle.step_tables.specs.Store.{current_of};
-ghost use Rattle.step_tables.specs.StoreMoves.{Take};
+ghost use Rattle.step_tables.specs.StoreMoves.{Take, Place, PutState};
 ghost use Rattle.step_tables.specs.Travels.{message_of};
 ghost use Rattle.world_tables.specs.World.{World as AWorld, Hosted as AHosted, owner_of, has_node, first_luck};
 ghost use Rattle.world_tables.specs.World.{busy_table, busy_step, write_next, tasks_of, store_until_idle};
@@ -155,11 +154,12 @@ pub(crate) fn start<D: Disk + Drop>(
     }
 }
 
-/// Adds a live table on its disks. One of whose disks one fails is there, and its owner is down.
+/// Adds a table in this state on its disks. One of whose disks one fails is there, and its owner is down.
 pub(crate) fn add<D: Disk + Drop>(
     stores: &mut StoreHost<D>,
     table: TableNo,
     schema: Schema,
+    state: TableState,
     disks: (D, D, D),
 ) -> Result<(), WorldFault>
     requires held { IsStore D.state stores.old }
@@ -167,7 +167,7 @@ pub(crate) fn add<D: Disk + Drop>(
     requires made { IsMade table schema }
     requires sound { faults_of D.state disks.0 disks.1 disks.2 ≡ 0 }
     ensures added { (w : AWorld) → HoldsStore D.state w stores.old → OnOk result ((luck : Luck)
-        × HoldsStore D.state (made_with w table schema states.Live luck) stores.new
+        × HoldsStore D.state (made_with w table schema state luck) stores.new
         × IsCounted D.state (is_failure luck) stores.old.tables stores.new.tables) }
     ensures rows { (w : AWorld) → HoldsStore D.state w stores.old → OnOk result
         (AreStill D.state D.images w stores.old.tables stores.new.tables) }
@@ -175,14 +175,7 @@ pub(crate) fn add<D: Disk + Drop>(
     ensures memory { IfErr result (λ e. e ≡ Memory) }
 {
     let (chunk_disk, row_disk, log_disk) = disks;
-    match stores.add(
-        table,
-        schema,
-        TableState::Live,
-        chunk_disk,
-        row_disk,
-        log_disk,
-    ) {
+    match stores.add(table, schema, state, chunk_disk, row_disk, log_disk) {
         Ok(()) => Ok(()),
         Err(NodeFault::Disk) => Ok(()),
         Err(_) => Err(WorldFault::Memory),
@@ -260,7 +253,8 @@ pub(crate) fn take<D: Disk + Drop>(
     ensures done { (w : AWorld) → HoldsStore D.state w stores.old
         → is_held ≡ has_node w.holds (nodes.Store store) → FitsIn w message.now
         → IfOk result (λ answer. (lucks : List Luck)
-        × IsTakenAs D.state w from (message_of message.now) lucks stores.old stores.new answer) }
+        × IsTakenAs D.state w (table_of (message_of message.now)) (Take from (message_of message.now)) lucks stores.old
+        stores.new answer) }
     ensures counted { IfOk result (λ answer.
         IsCounted D.state (is_fault (answer_of answer)) stores.old.tables stores.new.tables) }
     ensures rows { (w : AWorld) → HoldsStore D.state w stores.old → FitsIn w message.now → IfOk result (λ answer.
@@ -292,7 +286,8 @@ fn take_there<D: Disk + Drop>(
     ensures done { (w : AWorld) (hosted : AHosted) → HoldsStore D.state w stores.old
         → is_held ≡ has_node w.holds (nodes.Store store) → FitsIn w message.now
         → hosted_at w (table_of (message_of message.now)) ≡ Some hosted → IfOk result (λ answer. (lucks : List Luck)
-        × IsTakenAs D.state w from (message_of message.now) lucks stores.old stores.new answer) }
+        × IsTakenAs D.state w (table_of (message_of message.now)) (Take from (message_of message.now)) lucks stores.old
+        stores.new answer) }
     ensures counted { IfOk result (λ answer.
         IsCounted D.state (is_fault (answer_of answer)) stores.old.tables stores.new.tables) }
     ensures rows { (w : AWorld) → HoldsStore D.state w stores.old → FitsIn w message.now → IfOk result (λ answer.
@@ -313,6 +308,63 @@ fn take_there<D: Disk + Drop>(
             code: 11,
             count: NUMBER_MAX + 1,
         }),
+        Err(_) => Err(WorldFault::Memory),
+    }
+}
+
+/// The Store begins to put a table that it keeps into this state, and does the work that follows. One that isn't there
+/// is passed over.
+pub(crate) fn place<D: Disk + Drop>(
+    stores: &mut StoreHost<D>,
+    store: StoreNo,
+    is_held: bool,
+    table: TableNo,
+    state: TableState,
+) -> Result<Answer, WorldFault>
+    requires held { IsStore D.state stores.old }
+    requires up { is_up_at stores.old store ≡ true }
+    requires owner { owner_at stores.old.tables table ≡ store }
+    ensures done { (w : AWorld) → HoldsStore D.state w stores.old
+        → is_held ≡ has_node w.holds (nodes.Store store) → IfOk result (λ answer. (lucks : List Luck)
+        × IsTakenAs D.state w table (Place (PutState state)) lucks stores.old stores.new answer) }
+    ensures counted { IfOk result (λ answer.
+        IsCounted D.state (is_fault (answer_of answer)) stores.old.tables stores.new.tables) }
+    ensures rows { (w : AWorld) → HoldsStore D.state w stores.old → IfOk result (λ answer.
+        AreLeftOver D.state D.images w (move_table table (Place (PutState state)) w).world stores.old.tables
+        stores.new.tables) }
+    ensures memory { IfErr result (λ e. e ≡ Memory) }
+{
+    if stores.has(table) {
+        return place_there(stores, store, is_held, table, state);
+    }
+    Ok(Answer::Done)
+}
+
+fn place_there<D: Disk + Drop>(
+    stores: &mut StoreHost<D>,
+    store: StoreNo,
+    is_held: bool,
+    table: TableNo,
+    state: TableState,
+) -> Result<Answer, WorldFault>
+    requires held { IsStore D.state stores.old }
+    requires up { is_up_at stores.old store ≡ true }
+    requires owner { owner_at stores.old.tables table ≡ store }
+    ensures done { (w : AWorld) (hosted : AHosted) → HoldsStore D.state w stores.old
+        → is_held ≡ has_node w.holds (nodes.Store store) → hosted_at w table ≡ Some hosted
+        → IfOk result (λ answer. (lucks : List Luck)
+        × IsTakenAs D.state w table (Place (PutState state)) lucks stores.old stores.new answer) }
+    ensures counted { IfOk result (λ answer.
+        IsCounted D.state (is_fault (answer_of answer)) stores.old.tables stores.new.tables) }
+    ensures rows { (w : AWorld) → HoldsStore D.state w stores.old → IfOk result (λ answer.
+        AreLeftOver D.state D.images w (move_table table (Place (PutState state)) w).world stores.old.tables
+        stores.new.tables) }
+    ensures memory { IfErr result (λ e. e ≡ Memory) }
+{
+    match stores.place_state(table, state) {
+        Ok(()) => follow_table(stores, store, table, is_held),
+        Err(NodeFault::Busy { with }) => Ok(Answer::Refused(Refusal::Busy { with })),
+        Err(NodeFault::Disk) => Ok(Answer::Refused(Refusal::NoDevice)),
         Err(_) => Err(WorldFault::Memory),
     }
 }

@@ -1,12 +1,14 @@
 //! Reads of the nodes: what a table has of a row, what a client has of it, which of them take messages now.
-ghost use Rattle.std.specs.Prelude.{◌≡◌, ℕ, suc, true, option_copied, option_map, IfOk, IfErr, IfSome, is_some};
+ghost use Rattle.std.specs.Prelude.{◌≡◌, ℕ, suc, true, false, option_copied, option_map, IfOk, IfErr, IfSome, is_some};
 ghost use Rattle.std.specs.Ordering.{nat_cmp};
 ghost use Rattle.std.specs.BTreeMap as tree;
+ghost use Rattle.stab_base.specs.declared.node.Node.TheVariants as nodes;
 ghost use Rattle.step_tables.specs.Facts as facts;
 ghost use Rattle.world_tables.specs.World.{World as AWorld, hosted_at, client_at, schema_at, store_falls, client_falls};
-ghost use Rattle.world_tables.specs.World.{owner_of, client_tasks, busy_table, Hosted as AHosted};
+ghost use Rattle.world_tables.specs.World.{owner_of, client_tasks, busy_live, is_at_work};
+ghost use Rattle.world_tables.specs.World.{is_cut, is_down, Hosted as AHosted};
 ghost use Rattle.world_tables.specs.Ready.{is_table_ready, is_client_ready, is_idle_table};
-ghost use Rattle.store_host.specs.Calls.{busy_version};
+ghost use Rattle.store_host.specs.Calls.{busy_version, state_at};
 ghost use Rattle.store_host.specs.Holds.{AreLeft, is_up_for, is_up_there, owner_at};
 ghost use Rattle.journal_host.specs.Calls.{held_by, has_table};
 ghost use Rattle.journal_host.specs.Holds.{IsPlanAt};
@@ -25,7 +27,7 @@ use disk_trait::Disk;
 use row_value::{ClientNo, RowId, Schema, TableNo, Version};
 use stab_base::{Node, StoreNo};
 use store_node::{NodeFault, WholeRow};
-use table_model::{Answer, History, Refusal};
+use table_model::{Answer, History, Refusal, TableState};
 
 impl<D: Disk + Drop> World<D> {
     /// The Store that keeps a table; 0 for one that isn't declared.
@@ -77,6 +79,13 @@ impl<D: Disk + Drop> World<D> {
         self.clients.is_ready(client)
     }
 
+    /// Whether a client's link is down.
+    pub fn is_cut(&self, client: ClientNo) -> bool
+        ensures { (w : AWorld) → Holds D.state w self.now → result ≡ is_cut w client }
+    {
+        self.clients.is_cut(client)
+    }
+
     /// The plan that a client is at work on; none where it has no write to do.
     pub fn plan_at(&self, client: ClientNo) -> Option<u64>
         requires { (w : AWorld) × Holds D.state w self.now }
@@ -87,11 +96,25 @@ impl<D: Disk + Drop> World<D> {
         self.clients.plan_at(client)
     }
 
-    /// A Store's table of least number that has writes to do.
-    pub fn busy_table(&self, store: StoreNo) -> Option<TableNo>
-        ensures { (w : AWorld) → Holds D.state w self.now → result ≡ busy_table w store }
+    /// A Store's live table of least number that has writes to do.
+    pub fn busy_live(&self, store: StoreNo) -> Option<TableNo>
+        ensures { (w : AWorld) → Holds D.state w self.now → result ≡ busy_live w store }
     {
-        self.store.busy_table(store)
+        self.store.busy_live(store)
+    }
+
+    /// The state of a table; none where it isn't there, or is down.
+    pub fn table_state(&self, table: TableNo) -> Option<TableState>
+        ensures { (w : AWorld) → Holds D.state w self.now → result ≡ state_at (hosted_at w table) }
+    {
+        self.store.table_state(table)
+    }
+
+    /// Whether a table has writes to do.
+    pub fn is_busy(&self, table: TableNo) -> bool
+        ensures { (w : AWorld) → Holds D.state w self.now → result ≡ is_at_work w table }
+    {
+        self.store.is_busy(table)
     }
 
     /// The version of a table's next write; 0 where it has none.
@@ -183,9 +206,9 @@ impl<D: Disk + Drop> World<D> {
         Ok(Read::Fallen(told))
     }
 
-    /// Whether a client has a table opened.
+    /// Whether a client has a table opened, and hasn't closed it.
     pub fn has_opened(&mut self, client: ClientNo, table: TableNo) -> Result<Read<bool>, WorldFault>
-        requires held { (w : AWorld) × Holds D.state w self.old × (is_client_ready w client ≡ true) }
+        requires held { (w : AWorld) × Holds D.state w self.old × (is_down w (nodes.Client client) ≡ false) }
         ensures read { (w : AWorld) → Holds D.state w self.old
             → IfOk result (HasRead D.state w (client_falls client w)
             (λ found. found ≡ has_table (client_at w client) table) self.old self.new) }

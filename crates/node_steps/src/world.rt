@@ -20,7 +20,7 @@ use row_value::{Schema, TableNo};
 use std::alloc::Global;
 use std::collections::BTreeMap;
 use store_host::StoreHost;
-use table_model::Event;
+use table_model::{Event, TableState};
 
 /// The declared Stores with their tables, and the clients, on their disks.
 #[derive(Drop)]
@@ -80,11 +80,18 @@ impl<D: Disk + Drop> World<D> {
         }
         match event {
             Event::Store { store } => self.declare_store(*store),
-            Event::Table { table, schema } => self.declare(depot, *table, schema),
+            Event::Table { table, schema } => {
+                self.declare(depot, *table, schema, TableState::Live)
+            }
+            Event::Draft { table, schema } => {
+                self.declare(depot, *table, schema, TableState::Draft)
+            }
             Event::Client { client, tables, .. } => self.join(depot, *client, tables.as_slice()),
             Event::Link { client, up } => self.link(*client, *up),
             Event::Conflicts { client, table } => self.conflicts(*client, *table),
             Event::ResolveAll { client, table, by } => self.resolve_all(*client, *table, *by),
+            Event::Create { node, table } => self.create(*node, *table),
+            Event::Drop { node, table } => self.drop_table(*node, *table),
             Event::StoreShow { table, row } => self.store_show(*table, row),
             Event::History { table } => self.history(*table),
             Event::Chunks { table } => self.chunks(*table),

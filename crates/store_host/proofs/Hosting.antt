@@ -38,7 +38,7 @@ use Rattle.store_commit.specs.Standing.{RowsLeave}
 use Rattle.table_model.specs.declared.table_state.TableState.{TableState}
 use Rattle.store_node.specs.Node.{own_faults, has_task, HasBlankDisks, HasNoRows}
 use Rattle.store_node.specs.Calls.{IsBehind, Declares, Starts, Stays, Shows, Gives, Delivers, IsAtWork, named, late, step_at, Places}
-use Rattle.world_tables.specs.World.{Outbox, Packet, history_on, packets_from, next_step, tasks_in, declared_late, new_hosted, scheme_in, chunk_in}
+use Rattle.world_tables.specs.World.{Outbox, Packet, history_on, packets_from, next_step, tasks_in, declared_late, new_hosted, scheme_in, chunk_in, is_live_state}
 use Rattle.world_tables.specs.World as world
 use Rattle.store_host.specs.declared.hosted.Hosted.{Hosted}
 use Rattle.store_host.specs.declared.hosted.TableOut.{TableOut}
@@ -514,3 +514,21 @@ pub down_state : {D : Type 0} (state : D → DiskState) (node : TableNode D) (di
     → None ≡ state_up (record { disk = disk; agenda = agenda })
 down_state state node disk None t down = refl
 down_state state node disk (Some tasks) t down = let up = t.at.0 in absurd cc
+
+-- ---- a live table at work
+
+none_and : (b : Bool) → false ≡ (b && false)
+none_and true = refl
+none_and false = refl
+
+same_stage : (a b : TableState) → Some a ≡ Some b → a ≡ b
+same_stage a b e = cc
+
+pub live_work : (disk : StoreDisk) (agenda : Option (List StoreTask)) (stage : TableState) (busy : Bool) → Some stage ≡ state_up (record { disk = disk; agenda = agenda })
+    → busy ≡ (is_live_state stage && has_task agenda) → busy ≡ (is_live_state disk.state && has_task agenda)
+live_work disk None stage busy up is = absurd cc
+live_work disk (Some tasks) stage busy up is = is ∙ ap (λ (l : TableState). is_live_state l && has_task (Some tasks)) (same_stage stage disk.state up)
+
+pub down_work : (disk : StoreDisk) (agenda : Option (List StoreTask)) → None ≡ state_up (record { disk = disk; agenda = agenda }) → false ≡ (is_live_state disk.state && has_task agenda)
+down_work disk None down = none_and (is_live_state disk.state)
+down_work disk (Some tasks) down = absurd cc

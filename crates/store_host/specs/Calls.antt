@@ -1,5 +1,5 @@
 -- What the calls of the Stores with their tables promise, in the moves of the world.
-use Rattle.std.specs.Prelude.{◌≡◌, ◌⊎◌, ◌↔◌, ℕ, Bool, false, List, [], ◌∷◌, ◌++◌, Option, Some, None}
+use Rattle.std.specs.Prelude.{◌≡◌, ◌⊎◌, ◌↔◌, ℕ, Bool, false, ◌&&◌, List, [], ◌∷◌, ◌++◌, Option, Some, None}
 use Rattle.std.specs.Prelude.{option_map, Result, Ok, OnOk, OnErr, IfOk, IfErr, IsErrOf}
 use Rattle.std.specs.BTreeMap as tree
 use Rattle.disk_trait.specs.Calls.{DiskState}
@@ -24,7 +24,7 @@ use Rattle.store_node.specs.Calls.{IsAtWork, IsSpent, IsRowAt}
 use Rattle.store_node.specs.Reading.{shown_of}
 use Rattle.world_tables.specs.World.{World, Moved, owner_of, scheme_in, chunk_in, schema_at, hosted_at}
 use Rattle.world_tables.specs.World.{and_then, move_table, table_falls, tables_fall, tables_start, store_falls}
-use Rattle.world_tables.specs.World.{table_crashes, crash_luck, first_luck, other_lucks}
+use Rattle.world_tables.specs.World.{table_crashes, crash_luck, first_luck, other_lucks, is_live, is_at_work}
 use Rattle.world_tables.specs.World as world
 use Rattle.store_host.specs.declared.hosted.Hosted.{Hosted}
 use Rattle.store_host.specs.declared.hosted.TableOut.{TableOut}
@@ -170,6 +170,10 @@ version_by disk other = 0
 abbrev pub busy_version : Option world.Hosted → ℕ
 busy_version None = 0
 busy_version (Some hosted) = version_by hosted.store.disk hosted.store.agenda
+
+-- whether a table is live and has writes to do
+abbrev pub is_live_at_work : World → ℕ → Bool
+is_live_at_work w table = is_live (hosted_at w table) && is_at_work w table
 
 -- ---- rows whole
 

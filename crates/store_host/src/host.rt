@@ -17,7 +17,8 @@ ghost use Rattle.store_node.specs.declared.fault.NodeFault.TheVariants.{Disk as 
 ghost use Rattle.world_tables.specs.World.{World as AWorld, Hosted as AHosted, is_down, hosted_at, schema_at};
 ghost use Rattle.world_tables.specs.World.{has_store};
 ghost use Rattle.world_tables.specs.World.{owner_by, owner_of, tables_of, tasks_of, is_at_work, chunk_in, names_on};
-ghost use Rattle.world_tables.specs.World.{busy_table, busy_step, write_next, store_until_idle, store_falls};
+ghost use Rattle.world_tables.specs.World.{busy_table, busy_live, busy_step, write_next, store_until_idle};
+ghost use Rattle.world_tables.specs.World.{store_falls};
 ghost use Rattle.world_tables.specs.World.{store_crashes, and_then, still, without_down, with_table, with_store};
 ghost use Rattle.world_tables.specs.World.{new_hosted};
 ghost use Rattle.table_model.specs.declared.table_state.TableState.{TableState as AState};
@@ -34,8 +35,8 @@ use crate::hosted::{Hosted, TableOut};
 use crate::joining::{any_down, owner_in, renew_all, renew_at, settle_all};
 use crate::store::StoreState;
 use crate::tables::{
-    any_unmade, busy_version_at, crash_busy, deliver_to, first_busy, halt_all, is_busy_at,
-    place_at, restart, row_at, show_at, work_at,
+    any_unmade, busy_version_at, crash_busy, deliver_to, first_busy, first_live_busy, halt_all,
+    is_busy_at, place_at, restart, row_at, show_at, work_at,
 };
 use disk_trait::Disk;
 use ring_map::Ring;
@@ -269,6 +270,16 @@ impl<D: Disk + Drop> StoreHost<D> {
     {
         match self.stores.get(&store) {
             Some(state) => first_busy(state.tables.as_slice(), &self.tables),
+            None => None,
+        }
+    }
+
+    /// A Store's live table of least number that has writes to do.
+    pub fn busy_live(&self, store: StoreNo) -> Option<TableNo>
+        ensures { (w : AWorld) → HoldsStore D.state w self.now → result ≡ busy_live w store }
+    {
+        match self.stores.get(&store) {
+            Some(state) => first_live_busy(state.tables.as_slice(), &self.tables),
             None => None,
         }
     }

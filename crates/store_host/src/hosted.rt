@@ -1,6 +1,6 @@
 //! A table at its Store, and the history that it has told.
 ghost use Rattle.std.specs.Prelude.{◌≡◌, ◌⊎◌, ◌<◌, ◌≤◌, ℕ, length, false, [], ◌∷◌, ◌++◌, map, List, Option, Some};
-ghost use Rattle.std.specs.Prelude.{true, filter, IfOk, IfErr, OnOk, OnErr};
+ghost use Rattle.std.specs.Prelude.{true, filter, IfOk, IfErr, OnOk, OnErr, ◌&&◌};
 ghost use Rattle.std.specs.Prelude.{IsErrOf};
 ghost use Rattle.vault.specs.Limit.{payload_most};
 ghost use Rattle.value_codec.specs.SchemaSpelling.{HasSchemaSpelling};
@@ -19,7 +19,7 @@ ghost use Rattle.store_commit.specs.Standing.{RowsLeave};
 ghost use Rattle.store_node.specs.Node.{IsNode, IsTable, has_task, own_faults, behind_next, LeavesRows};
 ghost use Rattle.store_node.specs.Node.{HasBlankDisks, HasNoRows};
 ghost use Rattle.table_model.specs.declared.table_state.TableState.{TableState as AState};
-ghost use Rattle.world_tables.specs.World.{goes_on, history_on, next_step, tasks_in, new_hosted};
+ghost use Rattle.world_tables.specs.World.{goes_on, history_on, next_step, tasks_in, new_hosted, is_live_state};
 ghost use Rattle.world_tables.specs.World as world;
 ghost use Rattle.store_host.specs.Holds.{IsHosted, outs_in, outbox_of, says_something, disks_at, AreBlankDisks};
 ghost use Rattle.store_host.specs.Steps.{IsTelling, HasTold, moved_at, started_at, faults_of, HasNodeCause};
@@ -334,6 +334,19 @@ impl<D: Disk + Drop> Hosted<D> {
             return Some(self.node.state());
         }
         None
+    }
+
+    /// Whether the table is live and has writes to do.
+    pub(crate) fn is_live_at_work(&self) -> bool
+        ensures { (s : TableStore) → IsTable D.state self.now.node s
+            → result ≡ (is_live_state s.disk.state && has_task s.agenda) }
+    {
+        match self.state() {
+            Some(TableState::Live) => self.node.is_busy(),
+            Some(TableState::Draft) => false,
+            Some(TableState::Dropped) => false,
+            None => false,
+        }
     }
 
     /// A row with its last version, or none where nothing was written to it.

@@ -14,6 +14,7 @@ ghost use Rattle.world_tables.specs.World.{table_falls, tables_fall, table_start
 ghost use Rattle.store_host.specs.Holds.{HoldsTables, AreTables, IsUpTable, SameFaults, AreLeft, AreStill};
 ghost use Rattle.store_host.specs.Calls.{AreMoved, HasCause, AreCrashed, AreTaken, HasTakeCause, AreShown, table_in};
 ghost use Rattle.store_host.specs.Calls.{AreGiven, ArePlaced, restart_moves, version_by, busy_version};
+ghost use Rattle.store_host.specs.Calls.{is_live_at_work};
 ghost use Rattle.store_host.specs.Joining.{any_unmade, kept_by, unmade_in};
 
 use crate::hosted::{Hosted, TableOut};
@@ -75,6 +76,33 @@ pub(crate) fn first_busy<D: Disk + Drop>(
     for table in numbers {
         if is_busy_at(tables, *table) {
             return Some(*table);
+        }
+    }
+    None
+}
+
+// Whether a table is live and has writes to do.
+fn is_live_at_work<D: Disk + Drop>(tables: &BTreeMap<TableNo, Hosted<D>>, table: TableNo) -> bool
+    ensures { (w : AWorld) → HoldsTables D.state w tables.now
+        → result ≡ is_live_at_work w table }
+{
+    match tables.get(&table) {
+        Some(hosted) => hosted.is_live_at_work(),
+        None => false,
+    }
+}
+
+/// The first of these tables that is live and has writes to do.
+pub(crate) fn first_live_busy<D: Disk + Drop>(
+    numbers: &[TableNo],
+    tables: &BTreeMap<TableNo, Hosted<D>>,
+) -> Option<TableNo>
+    ensures { (w : AWorld) → HoldsTables D.state w tables.now
+        → result ≡ find (is_live_at_work w) numbers.now }
+{
+    for number in numbers {
+        if is_live_at_work(tables, *number) {
+            return Some(*number);
         }
     }
     None

@@ -17,3 +17,4 @@ pub mod Stepped
 pub mod Maps
 pub mod Sounds
 pub mod Linked
+pub mod Opened

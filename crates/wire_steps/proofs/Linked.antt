@@ -1,6 +1,6 @@
--- A link that is set, and a Store that is at work.
-use Rattle.std.proofs.Common.{◌≡◌, ℕ, Bool, true, false, List, map, Option, Some, ap, ◌∙◌}
-use Rattle.std.specs.Prelude.{if◌then◌else◌, option_map}
+-- A link that is set, and a Store or a table that is at work.
+use Rattle.std.proofs.Common.{◌≡◌, ℕ, Bool, true, false, List, map, Option, Some, Result, Ok, Err, ap, ◌∙◌}
+use Rattle.std.specs.Prelude.{if◌then◌else◌, option_map, IfOk}
 use Rattle.std.specs.BTreeMap as tree
 use Rattle.disk_trait.specs.Calls.{DiskState}
 use Rattle.table_model.specs.declared.line.TextLine.{TextLine}
@@ -10,6 +10,7 @@ use Rattle.world_tables.specs.World.{client_at, is_client_down, with_link}
 use Rattle.wire_tables.specs.Wire.{Wire}
 use Rattle.part_store.specs.declared.gatherings.Gatherings.{Gatherings}
 use Rattle.part_client.specs.declared.arriving.Arriving.{Arriving}
+use Rattle.node_steps.specs.declared.fault.WorldFault.{WorldFault}
 use Rattle.node_steps.specs.declared.world.World.{World as Nodes}
 use Rattle.node_steps.specs.Holds.{Holds as NodesHold}
 use Rattle.node_steps.specs.Links as node_links
@@ -34,6 +35,12 @@ link_held {D} state v old h c up nodes held = go (is_client_down (client_at v.wo
     go true k = record { nodes = k; packets = h.packets; memory = h.memory }
     go false k = record { nodes = k; packets = h.packets; memory = memory_linked c up v old.gathered old.arriving h.memory }
 
--- the line of a Store at work
+-- the line of a table at work
 pub busy_told : (lines : List TextLine) (f : ℕ → List Line) (o : Option ℕ) (table : ℕ) → map line_of lines ≡ f table → Some table ≡ o → Some (map line_of lines) ≡ option_map f o
 busy_told lines f o table is at = ap (λ (l : List Line). Some l) is ∙ ap (option_map f) at
+
+-- the same of what is so too
+pub busy_as : (result : Result (Option (List TextLine)) WorldFault) (a b : Option (List Line)) → a ≡ b → IfOk result (λ found. option_map (map line_of) found ≡ a)
+    → IfOk result (λ found. option_map (map line_of) found ≡ b)
+busy_as (Err e) a b is k = tt
+busy_as (Ok found) a b is k = k ∙ is

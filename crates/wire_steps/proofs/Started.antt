@@ -423,6 +423,11 @@ within_more n count w c k = ⊎_elim (λ last. inl last) (λ most. inr (omega (a
 number_more : (n : ℕ) (w : AWorld) (c : ℕ) → node_steps.SpendsNumber n w c → node_steps.SpendsNumber (suc (suc n)) w c
 number_more n w c k = ⊎_elim (λ last. inl last) (λ most. inr (omega (arith, most))) k
 
+at_more : (n : ℕ) (w : AWorld) (node : Node) → node_steps.SpendsAt n w node → node_steps.SpendsAt (suc (suc n)) w node
+at_more n w (nodes.Client c) k = number_more n w c k
+at_more n w (nodes.Store number) k = absurd k
+at_more n w (nodes.Gate gate) k = absurd k
+
 pub spends_more : (n : ℕ) (w : AWorld) (event : Event) → node_steps.Spends n w event → Spends n w event
 spends_more n w (events.Write c table row x) k = number_more n w c k
 spends_more n w (events.Edit c table row x) k = number_more n w c k
@@ -435,6 +440,8 @@ spends_more n w (events.Conflicts c table) k = number_more n w c k
 spends_more n w (events.EndCr c table) k = number_more n w c k
 spends_more n w (events.Resolve c table row version choice) k = number_more n w c k
 spends_more n w (events.ResolveAll c table by) k = within_more n (length (client_pairs (client_at w c) table)) w c k
+spends_more n w (events.Create node table) k = at_more n w node k
+spends_more n w (events.Drop node table) k = at_more n w node k
 spends_more n w (events.Deliver packet) k = ⊎_elim (λ full. inl full) (λ c. inr (c.0, number_more n w c.0 c.1)) k
 spends_more n w other k = absurd k
 

@@ -28,7 +28,7 @@ use Rattle.wire_steps.proofs.Delivered.{wire_reached}
 -- an event that shows a device fault where its answer tells of one
 module _ {D : Type 0} (state : D → DiskState) (images : D → ℕ → List ℕ → Type 0) (v : Wire) (r : IsReached v) (event : Event)
     (shown : (lucks : Lucks) → is_wire_fault v event lucks ≡ is_fault_answer (wire_step v event lucks).answer) (is_out : ℕ → Bool) (old new : World D) (out : AreOut is_out v.world) where
-  behind_moved : (lucks : Lucks) → IsBehind state images v (wire_step v event lucks) old.nodes new.nodes → IsMoved state images v event lucks is_out old new
+  pub behind_moved : (lucks : Lucks) → IsBehind state images v (wire_step v event lucks) old.nodes new.nodes → IsMoved state images v event lucks is_out old new
   behind_moved lucks b = record {
     held = b.held;
     out = record {

@@ -9,3 +9,4 @@ pub mod Delivering
 pub mod Views
 pub mod Starting
 pub mod Sounds
+pub mod Opening

@@ -1,4 +1,4 @@
--- A client's link that is taken up or down, and the refusal of a Store that is at work.
+-- A client's link that is taken up or down, and the refusal of a Store or a table that is at work.
 use Rattle.std.specs.Prelude.{ℕ, Bool, if◌then◌else◌, List, [], ◌∷◌}
 use Rattle.step_tables.specs.Facts.{Line, AnswerLine}
 use Rattle.step_tables.specs.Facts as facts
@@ -10,6 +10,6 @@ use Rattle.wire_tables.specs.Wire.{Wire}
 abbrev pub link_set : ℕ → Bool → Wire → Wire
 link_set c up v = if is_client_down (client_at v.world c) then v else record v { world = with_link c up v.world }
 
--- the line of a Store that is at work on this table: the version of its next write
+-- the line of this table that is at work, or of its Store: the version of its next write
 abbrev pub busy_lines : World → ℕ → List Line
 busy_lines w table = AnswerLine (facts.Refuses (facts.Busy (busy_version (hosted_at w table)))) ∷ []

@@ -17,4 +17,5 @@ mod views;
 mod world;
 
 pub use node_steps::{Lines, WorldFault};
+pub use reading::Read;
 pub use world::World;

@@ -1,23 +1,40 @@
 //! Reads of the world.
-ghost use Rattle.std.specs.Prelude.{◌≡◌, option_copied, option_map, is_some, length, slice_get, IfOk, IfSome};
+ghost use Rattle.std.specs.Prelude.{◌≡◌, ℕ, suc, Bool, true, option_copied, option_map, is_some, length, slice_get};
+ghost use Rattle.std.specs.Prelude.{IfOk, IfErr, IfSome};
 ghost use Rattle.std.specs.Ordering.{nat_cmp};
 ghost use Rattle.std.specs.BTreeMap as tree;
 ghost use Rattle.world_tables.specs.World.{World as AWorld, Hosted as AHosted, hosted_at, schema_at};
-ghost use Rattle.world_tables.specs.World.{client_at, client_tasks, is_down};
+ghost use Rattle.world_tables.specs.World.{client_at, client_tasks, is_at_work, is_cut, is_down, owner_of};
+ghost use Rattle.store_host.specs.Calls.{state_at};
 ghost use Rattle.journal_host.specs.Holds.{IsPlanAt};
 ghost use Rattle.journal_host.specs.Moves.{has_work};
 ghost use Rattle.message_parts.specs.Parts.{message_at};
-ghost use Rattle.wire_tables.specs.Wire.{PartPacket, Wire};
+ghost use Rattle.wire_tables.specs.Wire.{PartPacket, Wire, is_client_up};
 ghost use Rattle.part_network.specs.Packets.{frame_length, read_of, part_in, part_with};
+ghost use Rattle.node_steps.specs.declared.fault.WorldFault.TheVariants.{Memory};
 ghost use Rattle.node_steps.specs.Holds as nodes;
+ghost use Rattle.node_steps.specs.Holds.{AreOut};
 ghost use Rattle.wire_steps.specs.Holds.{Holds};
+ghost use Rattle.wire_steps.specs.Opening.{HasRead};
+ghost use Rattle.wire_steps.specs.Reached.{IsReached};
+ghost use Rattle.wire_steps.specs.Steps.{HavePlansBelow};
 
 use crate::world::World;
 use disk_trait::Disk;
+use node_steps::{Lines, WorldFault};
 use row_value::Schema;
-use stab_base::{ClientNo, Node, TableNo};
+use stab_base::{ClientNo, Node, StoreNo, TableNo};
 use std::alloc::AllocError;
-use table_model::{History, Message};
+use table_model::{History, Message, TableState};
+
+/// What a read of a client's disks comes to.
+#[derive(Drop)]
+pub enum Read<T> {
+    /// This was read, and nothing has changed.
+    Found(T),
+    /// A disk has failed, and the client is down. These lines are told then.
+    Fallen(Lines),
+}
 
 impl<D: Disk + Drop> World<D> {
     /// The schema of a declared table.
@@ -34,6 +51,34 @@ impl<D: Disk + Drop> World<D> {
             → option_copied result ≡ option_map (λ (hosted : AHosted). hosted.history) (hosted_at w table) }
     {
         self.nodes.entries(table)
+    }
+
+    /// The Store that keeps a table; 0 for one that isn't declared.
+    pub fn owner(&self, table: TableNo) -> StoreNo
+        ensures { (v : Wire) → Holds D.state v self.now → result ≡ owner_of v.world table }
+    {
+        self.nodes.owner(table)
+    }
+
+    /// Whether a table has writes to do.
+    pub fn is_busy(&self, table: TableNo) -> bool
+        ensures { (v : Wire) → Holds D.state v self.now → result ≡ is_at_work v.world table }
+    {
+        self.nodes.is_busy(table)
+    }
+
+    /// Whether a client's link is down.
+    pub fn is_cut(&self, client: ClientNo) -> bool
+        ensures { (v : Wire) → Holds D.state v self.now → result ≡ is_cut v.world client }
+    {
+        self.nodes.is_cut(client)
+    }
+
+    /// The state of a table; none where it isn't there, or is down.
+    pub fn table_state(&self, table: TableNo) -> Option<TableState>
+        ensures { (v : Wire) → Holds D.state v self.now → result ≡ state_at (hosted_at v.world table) }
+    {
+        self.nodes.table_state(table)
     }
 
     /// Whether a client is there.
@@ -83,5 +128,25 @@ impl<D: Disk + Drop> World<D> {
             ≡ option_map (λ (p : PartPacket). frame_length (message_at p.part)) (slice_get v.packets number) }
     {
         self.network.frame_len(number)
+    }
+
+    /// Whether a client that is there and up has a table opened, and hasn't closed it, whatever writes it has to do.
+    /// Where its disks can't be read, that is what closing the table comes to, whose device calls begin with a failure.
+    pub fn has_opened(&mut self, client: ClientNo, table: TableNo) -> Result<Read<bool>, WorldFault>
+        requires held { (v : Wire) × IsReached v × Holds D.state v self.old
+            × (is_client_up (client_at v.world client) ≡ true) }
+        ensures read { (v : Wire) (is_out : ℕ → Bool) → IsReached v → Holds D.state v self.old
+            → is_client_up (client_at v.world client) ≡ true → AreOut is_out v.world
+            → IfOk result (HasRead D.state D.images v client table is_out self.old self.new) }
+        ensures plans { (n : ℕ) → HavePlansBelow D.state n self.old → HavePlansBelow D.state (suc n) self.new }
+        ensures memory { IfErr result (λ e. e ≡ Memory) }
+    {
+        match self.nodes.has_opened(client, table)? {
+            node_steps::Read::Found(found) => Ok(Read::Found(found)),
+            node_steps::Read::Fallen(told) => {
+                let lines = self.tell(told)?;
+                Ok(Read::Fallen(lines))
+            }
+        }
     }
 }

@@ -11,13 +11,15 @@ use Rattle.node_steps.proofs.moves.take.Goals as goal
 
 pub returns-then-has-clause-done : goal.returns-then-has-clause-done
 returns-then-has-clause-done g c w h is fits =
-    ok_there g.D.Disk.state w c.args.stores.now h c.args.from (message_of c.args.message.now) c.take_there.new.stores c.table_of.result c.table_of.ensures
+    let m = message_of c.args.message.now in
+    ok_there g.D.Disk.state w c.args.stores.now h (table_of m) (Take c.args.from m) c.take_there.new.stores c.table_of.result c.table_of.ensures
     (sym c.if-has.true ∙ c.has.ensures.held w h) c.take_there.result
     (λ hosted at. c.take_there.ensures.done w hosted h is fits at)
 
 pub returns-clause-done : goal.returns-clause-done
 returns-clause-done g c w h is fits =
-    lost g.D.Disk.state w c.args.stores.now h c.args.from (message_of c.args.message.now)
+    let m = message_of c.args.message.now in
+    lost g.D.Disk.state w c.args.stores.now h (table_of m) (Take c.args.from m)
     (none_of _ (sym c.if-has.false ∙ (c.has.ensures.held w h ∙ ap (λ t. is_some (hosted_at w t)) c.table_of.ensures))) _ refl
 
 pub returns-clause-rows : goal.returns-clause-rows

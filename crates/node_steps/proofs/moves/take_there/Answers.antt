@@ -6,7 +6,7 @@ use Rattle.world_tables.specs.World.{move_table}
 use Rattle.store_host.proofs.Froms.{move_from}
 use Rattle.store_host.specs.Holds.{is_up_at}
 use Rattle.node_steps.proofs.Showing.{up_for, table_owner}
-use Rattle.node_steps.proofs.Taken.{done_ok, busy, fallen}
+use Rattle.node_steps.proofs.Taken.{takes_message, done_ok, busy, fallen}
 use Rattle.node_steps.proofs.Counted.{follow_counted}
 use Rattle.node_steps.proofs.Rows.{over_first, over_then_ok}
 use Rattle.node_steps.proofs.moves.take_there.Goals as goal
@@ -26,20 +26,23 @@ follow_table-requires-clause-held g c =
 pub returns-in-Ok-clause-done : goal.returns-in-Ok-clause-done
 returns-in-Ok-clause-done g c w hosted h is fits at =
     let k = c.in-Ok.ensures.takes w h in
-    done_ok g.D.Disk.state w c.args.stores.now h c.args.from (message_of c.args.message.now) c.args.store c.deliver.new.self c.follow_table.new.stores hosted at
+    let m = message_of c.args.message.now in
+    done_ok g.D.Disk.state w c.args.stores.now h (table_of m) (Take c.args.from m) (takes_message c.args.from m) c.args.store c.deliver.new.self c.follow_table.new.stores hosted at
     (k.idle (λ b. let e = b.1 in absurd cc) hosted at) (k.done fits) c.args.is_held (table_owner g.D.Disk.state w c.args.stores.now.tables _ hosted h.tables at c.args.store c.requires.owner) is c.table_of.result c.table_of.ensures
     c.follow_table.result c.follow_table.ensures.done
 
 pub returns-in-Err-Busy-clause-done : goal.returns-in-Err-Busy-clause-done
 returns-in-Err-Busy-clause-done g c w hosted h is fits at =
     let k = c.in-Err-Busy.ensures.takes w h in let e = c.in-Err-Busy.field-0-is in
-    busy g.D.Disk.state w c.args.stores.now h c.args.from (message_of c.args.message.now) c.in-Err-Busy.with ((k.busy c.in-Err-Busy.with).0 cc) c.deliver.new.self (k.refused (λ no. absurd cc))
+    let m = message_of c.args.message.now in
+    busy g.D.Disk.state w c.args.stores.now h (table_of m) (Take c.args.from m) (takes_message c.args.from m) c.in-Err-Busy.with ((k.busy c.in-Err-Busy.with).0 cc) c.deliver.new.self (k.refused (λ no. absurd cc))
     c.in-Err-Busy.ensures.outs _ refl
 
 pub returns-in-Err-Disk-clause-done : goal.returns-in-Err-Disk-clause-done
 returns-in-Err-Disk-clause-done g c w hosted h is fits at =
     let k = c.in-Err-Disk.ensures.takes w h in let e = c.in-Err-Disk.field-0-is in
-    fallen g.D.Disk.state w c.args.stores.now h c.args.from (message_of c.args.message.now) hosted at c.deliver.new.self (k.idle (λ b. let f = b.1 in absurd cc) hosted at) (k.fallen cc) _ refl
+    let m = message_of c.args.message.now in
+    fallen g.D.Disk.state w c.args.stores.now h (table_of m) (Take c.args.from m) hosted at c.deliver.new.self (k.idle (λ b. let f = b.1 in absurd cc) hosted at) (k.fallen cc) _ refl
 
 pub returns-in-Ok-clause-counted : goal.returns-in-Ok-clause-counted
 returns-in-Ok-clause-counted g c =

@@ -2,14 +2,14 @@ use Rattle.std.proofs.Common.{◌≡◌, Bool, suc}
 use Rattle.world_tables.specs.World.{client_at}
 use Rattle.journal_host.specs.Calls.{has_table}
 use Rattle.node_steps.proofs.Clients.{plans_told}
-use Rattle.node_steps.proofs.Found.{client_up, client_found, client_fallen}
+use Rattle.node_steps.proofs.Found.{client_stays_up, client_found, client_fallen}
 use Rattle.node_steps.proofs.world.World.has_opened.Goals as goal
 
 pub has_opened-requires-clause-clients : goal.has_opened-requires-clause-clients
 has_opened-requires-clause-clients g c = let k = c.requires.held in (k.0, k.1.clients)
 
 pub has_opened-requires-clause-up : goal.has_opened-requires-clause-up
-has_opened-requires-clause-up g c = let k = c.requires.held in client_up g.D.Disk.state k.0 c.args.self.now.clients c.args.client k.1.clients k.2
+has_opened-requires-clause-up g c = let k = c.requires.held in client_stays_up g.D.Disk.state k.0 c.args.self.now.clients c.args.client k.1.clients k.2
 
 pub returns-in-Ok-clause-read : goal.returns-in-Ok-clause-read
 returns-in-Ok-clause-read g c w h =

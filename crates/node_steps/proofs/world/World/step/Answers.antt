@@ -2,6 +2,8 @@ use Rattle.std.proofs.Common.{◌≡◌, ℕ, ◌+◌, false, Ok, refl, sym, ◌
 use Rattle.std.specs.Prelude.{IfOk, IfErr}
 use Rattle.table_model.specs.declared.event.Event.{Event}
 use Rattle.table_model.specs.declared.event.Event.TheVariants as events
+use Rattle.table_model.specs.declared.table_state.TableState.TheVariants as states
+use Rattle.step_tables.specs.StoreMoves.{PutState}
 use Rattle.world_tables.specs.Faults.{is_device_fault, is_fault_answer}
 use Rattle.fault_laws.proofs.Answered.{is_declaration}
 use Rattle.fault_laws.proofs.Well.{fine_step}
@@ -13,11 +15,13 @@ use Rattle.world_laws.specs.Begun.{IsSingle}
 use Rattle.fair_laws.proofs.Worlds.{reached_fair}
 use Rattle.node_steps.specs.declared.fault.WorldFault.TheVariants.{Limit as LimitPassed}
 use Rattle.node_steps.specs.Calls.{Comes, by_lucks}
+use Rattle.node_steps.specs.Declaring.{Declares}
 use Rattle.node_steps.specs.Faults.{ComesCounted}
 use Rattle.node_steps.specs.Rows.{ComesLeft}
-use Rattle.node_steps.specs.Steps.{HavePlansBelow, IsStep, Spends, may_begin}
+use Rattle.node_steps.specs.Steps.{HavePlansBelow, IsStep, Spends, SpendsAt, may_begin}
 use Rattle.node_steps.proofs.Counted.{stepped, stepped_first, stepped_still, stepped_counted, never_left, left_still}
-use Rattle.node_steps.proofs.Rows.{any_ok, stay_left, stay_still}
+use Rattle.node_steps.proofs.Clients.{either_spent}
+use Rattle.node_steps.proofs.Rows.{any_ok, stay_left, stay_placed, stay_still}
 use Rattle.node_steps.proofs.Stepping.{memory_limit, either_limit, other_counted, memory_other, nodes_same, joins_as, plans_later, plans_kept, one_begun, least_begun, left_if, never_single}
 use Rattle.node_steps.proofs.Done.{comes_as, gate_silent}
 use Rattle.node_steps.proofs.AsCalls.{as_call, spent_limit}
@@ -89,8 +93,8 @@ declare-requires-clause-held g c =
 
 pub returns-in-Table-clause-done : goal.returns-in-Table-clause-done
 returns-in-Table-clause-done g c w r h out =
-    subst (λ (e : Event). IfOk c.declare.result (λ told. IsStep g.D.Disk.state g.D.Disk.images w e told (g.P.Depot.state c.declare.new.depot).is_out c.args.self.now c.declare.new.self)) (sym c.in-Table.is)
-    (c.declare.ensures.done w r h out)
+    c.declare.ensures.done w c.args.event.now
+    (subst (λ (e : Event). Declares e c.in-Table.table c.in-Table.schema states.Live) (sym c.in-Table.is) (record { steps = λ v lucks. refl; fails = λ v lucks. refl })) r h out
 
 pub returns-in-Table-clause-limit : goal.returns-in-Table-clause-limit
 returns-in-Table-clause-limit g c w n r h k =
@@ -105,6 +109,33 @@ pub returns-in-Table-clause-plans : goal.returns-in-Table-clause-plans
 returns-in-Table-clause-plans g c w n r h k =
     one_begun g.D.Disk.state w c.args.event.now n c.declare.new.self (subst (λ (e : Event). may_begin w e ≡ 1) (sym c.in-Table.is) refl)
     (plans_kept g.D.Disk.state n c.args.self.now c.declare.new.self c.declare.ensures.clients k)
+
+pub declare-requires-in-Draft-clause-made : goal.declare-requires-in-Draft-clause-made
+declare-requires-in-Draft-clause-made g c =
+    subst (λ (e : Event). IsBuilt e) c.in-Draft.is c.requires.built
+
+pub declare-requires-in-Draft-clause-held : goal.declare-requires-in-Draft-clause-held
+declare-requires-in-Draft-clause-held g c =
+    let k = c.requires.held in (k.w, k.held, k.out)
+
+pub returns-in-Draft-clause-done : goal.returns-in-Draft-clause-done
+returns-in-Draft-clause-done g c w r h out =
+    c.declare-in-Draft.ensures.done w c.args.event.now
+    (subst (λ (e : Event). Declares e c.in-Draft.table c.in-Draft.schema states.Draft) (sym c.in-Draft.is) (record { steps = λ v lucks. refl; fails = λ v lucks. refl })) r h out
+
+pub returns-in-Draft-clause-limit : goal.returns-in-Draft-clause-limit
+returns-in-Draft-clause-limit g c w n r h k =
+    either_limit c.declare-in-Draft.result c.declare-in-Draft.ensures.only (λ code count. (code ≡ 11) × Spends n w c.args.event.now)
+
+pub returns-in-Draft-clause-left : goal.returns-in-Draft-clause-left
+returns-in-Draft-clause-left g c w r h out =
+    left_if c.declare-in-Draft.result _ c.args.event.now
+    (c.declare-in-Draft.ensures.left w h out)
+
+pub returns-in-Draft-clause-plans : goal.returns-in-Draft-clause-plans
+returns-in-Draft-clause-plans g c w n r h k =
+    one_begun g.D.Disk.state w c.args.event.now n c.declare-in-Draft.new.self (subst (λ (e : Event). may_begin w e ≡ 1) (sym c.in-Draft.is) refl)
+    (plans_kept g.D.Disk.state n c.args.self.now c.declare-in-Draft.new.self c.declare-in-Draft.ensures.clients k)
 
 pub join-requires-clause-numbered : goal.join-requires-clause-numbered
 join-requires-clause-numbered g c =
@@ -132,6 +163,68 @@ pub returns-in-Client-clause-plans : goal.returns-in-Client-clause-plans
 returns-in-Client-clause-plans g c w n r h k =
     one_begun g.D.Disk.state w c.args.event.now n c.join.new.self (subst (λ (e : Event). may_begin w e ≡ 1) (sym c.in-Client.is) refl)
     (plans_later g.D.Disk.state n c.join.new.self (c.join.ensures.plans n k))
+
+pub create-requires : goal.create-requires
+create-requires g c = let k = c.requires.held in record { held = (k.w, k.held, reached_fair k.w k.reached) }
+
+pub drop_table-requires : goal.drop_table-requires
+drop_table-requires g c = let k = c.requires.held in record { held = (k.w, k.held) }
+
+pub returns-in-Create-clause-done : goal.returns-in-Create-clause-done
+returns-in-Create-clause-done g c w r h out =
+    stepped g.D.Disk.state g.D.Disk.images w c.args.event.now (g.P.Depot.state c.args.depot.now).is_out c.args.self.now c.create.new.self c.create.result out
+    (subst (λ (e : Event). is_declaration e ≡ false) (sym c.in-Create.is) refl)
+    (subst (λ (e : Event). (lucks : Lucks) → is_device_fault w e lucks ≡ is_fault_answer (step w e lucks).answer) (sym c.in-Create.is) (λ lucks. refl))
+    (subst (λ (e : Event). Comes g.D.Disk.state w (step w e) c.create.result c.create.new.self) (sym c.in-Create.is) (c.create.ensures.done w h))
+    c.create.ensures.counted
+    (stay_placed g.D.Disk.state g.D.Disk.images w r c.args.event.now c.create.result c.args.self.now c.create.new.self c.in-Create.table (PutState states.Live) (c.create.ensures.rows w h))
+
+pub returns-in-Create-clause-limit : goal.returns-in-Create-clause-limit
+returns-in-Create-clause-limit g c w n r h k =
+    either_spent c.create.result (SpendsAt n w c.in-Create.node) (Spends n w c.args.event.now) (λ x. subst (λ (e : Event). Spends n w e) (sym c.in-Create.is) x)
+    (c.create.ensures.limit w n h k)
+
+pub returns-in-Create-clause-left : goal.returns-in-Create-clause-left
+returns-in-Create-clause-left g c w r h out =
+    left_if c.create.result _ c.args.event.now
+    (left_still g.D.Disk.state w c.args.event.now (g.P.Depot.state c.args.depot.now).is_out c.args.self.now c.create.new.self c.create.result out (c.create.ensures.left w h))
+
+pub returns-in-Create-clause-depot : goal.returns-in-Create-clause-depot
+returns-in-Create-clause-depot g c =
+    other_counted c.create.result c.create.ensures.only (g.P.Depot.state c.args.depot.now).faults
+
+pub returns-in-Create-clause-plans : goal.returns-in-Create-clause-plans
+returns-in-Create-clause-plans g c w n r h k =
+    one_begun g.D.Disk.state w c.args.event.now n c.create.new.self (subst (λ (e : Event). may_begin w e ≡ 1) (sym c.in-Create.is) refl)
+    (c.create.ensures.plans n k)
+
+pub returns-in-Drop-clause-done : goal.returns-in-Drop-clause-done
+returns-in-Drop-clause-done g c w r h out =
+    stepped g.D.Disk.state g.D.Disk.images w c.args.event.now (g.P.Depot.state c.args.depot.now).is_out c.args.self.now c.drop_table.new.self c.drop_table.result out
+    (subst (λ (e : Event). is_declaration e ≡ false) (sym c.in-Drop.is) refl)
+    (subst (λ (e : Event). (lucks : Lucks) → is_device_fault w e lucks ≡ is_fault_answer (step w e lucks).answer) (sym c.in-Drop.is) (λ lucks. refl))
+    (subst (λ (e : Event). Comes g.D.Disk.state w (step w e) c.drop_table.result c.drop_table.new.self) (sym c.in-Drop.is) (c.drop_table.ensures.done w h))
+    c.drop_table.ensures.counted
+    (stay_placed g.D.Disk.state g.D.Disk.images w r c.args.event.now c.drop_table.result c.args.self.now c.drop_table.new.self c.in-Drop.table (PutState states.Dropped) (c.drop_table.ensures.rows w h))
+
+pub returns-in-Drop-clause-limit : goal.returns-in-Drop-clause-limit
+returns-in-Drop-clause-limit g c w n r h k =
+    either_spent c.drop_table.result (SpendsAt n w c.in-Drop.node) (Spends n w c.args.event.now) (λ x. subst (λ (e : Event). Spends n w e) (sym c.in-Drop.is) x)
+    (c.drop_table.ensures.limit w n h k)
+
+pub returns-in-Drop-clause-left : goal.returns-in-Drop-clause-left
+returns-in-Drop-clause-left g c w r h out =
+    left_if c.drop_table.result _ c.args.event.now
+    (left_still g.D.Disk.state w c.args.event.now (g.P.Depot.state c.args.depot.now).is_out c.args.self.now c.drop_table.new.self c.drop_table.result out (c.drop_table.ensures.left w h))
+
+pub returns-in-Drop-clause-depot : goal.returns-in-Drop-clause-depot
+returns-in-Drop-clause-depot g c =
+    other_counted c.drop_table.result c.drop_table.ensures.only (g.P.Depot.state c.args.depot.now).faults
+
+pub returns-in-Drop-clause-plans : goal.returns-in-Drop-clause-plans
+returns-in-Drop-clause-plans g c w n r h k =
+    one_begun g.D.Disk.state w c.args.event.now n c.drop_table.new.self (subst (λ (e : Event). may_begin w e ≡ 1) (sym c.in-Drop.is) refl)
+    (c.drop_table.ensures.plans n k)
 
 pub returns-in-Link-clause-done : goal.returns-in-Link-clause-done
 returns-in-Link-clause-done g c w r h out =

@@ -3,10 +3,15 @@ use Rattle.stab_base.specs.declared.node.Node.TheVariants as nodes
 use Rattle.step_tables.specs.Travels.{message_of}
 use Rattle.journal_host.specs.Calls.{has_table}
 use Rattle.world_tables.specs.World.{client_at}
+use Rattle.node_steps.proofs.Found.{ready_up}
 use Rattle.wire_steps.specs.Calls.{SpendsAny}
 use Rattle.wire_steps.proofs.Answered.{send_limited, limited_later, plans_stay, plans_later}
 use Rattle.wire_steps.proofs.Coming.{opened_seen, told_of, opened_then, unopened_then, opening_lost, still_goes, still_ends, client_tells, client_comes, client_ends, idle_carry, idle_comes, idle_ends}
 use Rattle.wire_steps.proofs.world.World.bring_to_ready.Goals as goal
+
+pub has_opened-requires : goal.has_opened-requires
+has_opened-requires g c =
+    let x = c.requires.brought in record { held = (x.brought.v.world, x.brought.held.nodes, ready_up x.brought.v.world c.args.client x.ready) }
 
 pub returns-in_err-has_opened-clause-plans : goal.returns-in_err-has_opened-clause-plans
 returns-in_err-has_opened-clause-plans g c n below =

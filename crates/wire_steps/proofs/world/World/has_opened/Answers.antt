@@ -1,0 +1,44 @@
+use Rattle.std.proofs.lemmas.Result.{err_from_is_err_and}
+use Rattle.wire_steps.proofs.Answered.{plans_stay}
+use Rattle.wire_steps.proofs.Opened.{up_not_down, found_opened, fall_memory, fall_tells, fall_opened}
+use Rattle.wire_steps.proofs.world.World.has_opened.Goals as goal
+
+pub has_opened-requires : goal.has_opened-requires
+has_opened-requires g c = let x = c.requires.held in record { held = (x.0.world, x.2.nodes, up_not_down _ x.3) }
+
+pub tell-requires : goal.tell-requires
+tell-requires g c =
+    let x = c.requires.held in
+    record {
+      told = fall_tells g.D.Disk.state g.D.Disk.images g.met.D.Disk.only_now x.0 c.args.self.now c.args.client c.args.table x.2 c.has_opened.new.self c.in_ok-found.ensures.store x.1 c.in-Fallen.told
+          (rw c.in-Fallen.is at (c.in_ok-found.ensures.read x.0.world x.2.nodes)) x.3;
+    }
+
+pub returns-in-Found-clause-read : goal.returns-in-Found-clause-read
+returns-in-Found-clause-read g c v is_out r h up out =
+    found_opened g.D.Disk.state g.D.Disk.images g.met.D.Disk.only_now v c.args.self.now c.args.client c.args.table h c.has_opened.new.self c.in_ok-found.ensures.store c.in-Found.found
+    (rw c.in-Found.is at (c.in_ok-found.ensures.read v.world h.nodes))
+
+pub returns-in_ok-lines-in-Fallen-clause-read : goal.returns-in_ok-lines-in-Fallen-clause-read
+returns-in_ok-lines-in-Fallen-clause-read g c v is_out r h up out =
+    let store = c.in_ok-found.ensures.store in
+    let read = rw c.in-Fallen.is at (c.in_ok-found.ensures.read v.world h.nodes) in
+    fall_opened g.D.Disk.state g.D.Disk.images g.met.D.Disk.only_now v c.args.self.now c.args.client c.args.table h c.has_opened.new.self store r c.in-Fallen.told read up is_out out c.tell.new.self
+    c.tell.ensures.nodes c.in_ok-lines-in-Fallen.lines
+    (c.in_ok-lines-in-Fallen.ensures.told (fall_tells g.D.Disk.state g.D.Disk.images g.met.D.Disk.only_now v c.args.self.now c.args.client c.args.table h c.has_opened.new.self store r c.in-Fallen.told read up))
+
+pub returns-in_err-lines-in-Fallen-clause-memory : goal.returns-in_err-lines-in-Fallen-clause-memory
+returns-in_err-lines-in-Fallen-clause-memory g c =
+    let x = c.requires.held in
+    let p = err_from_is_err_and c.from_residual-in_err-lines-in-Fallen.result c.from_residual-in_err-lines-in-Fallen.ensures.1 in
+    rw (p.1, p.2) (fall_memory g.D.Disk.state x.0 c.args.self.now x.2 c.args.client c.in_err-lines-in-Fallen.field-0.0
+    (c.in_err-lines-in-Fallen.ensures.over (fall_tells g.D.Disk.state g.D.Disk.images g.met.D.Disk.only_now x.0 c.args.self.now c.args.client c.args.table x.2 c.has_opened.new.self c.in_ok-found.ensures.store
+    x.1 c.in-Fallen.told (rw c.in-Fallen.is at (c.in_ok-found.ensures.read x.0.world x.2.nodes)) x.3)) c.in_err-lines-in-Fallen.ensures.only)
+
+pub returns-in_ok-lines-in-Fallen-clause-plans : goal.returns-in_ok-lines-in-Fallen-clause-plans
+returns-in_ok-lines-in-Fallen-clause-plans g c n below =
+    plans_stay g.D.Disk.state _ c.has_opened.new.self c.tell.new.self.nodes c.tell.ensures.nodes (c.in_ok-found.ensures.plans n below)
+
+pub returns-in_err-lines-in-Fallen-clause-plans : goal.returns-in_err-lines-in-Fallen-clause-plans
+returns-in_err-lines-in-Fallen-clause-plans g c n below =
+    plans_stay g.D.Disk.state _ c.has_opened.new.self c.tell.new.self.nodes c.tell.ensures.nodes (c.in_ok-found.ensures.plans n below)

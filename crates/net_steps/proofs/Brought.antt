@@ -18,11 +18,12 @@ use Rattle.wire_steps.specs.Steps as wires
 use Rattle.wire_steps.specs.declared.world.World.{World as WireWorld}
 use Rattle.wire_steps.proofs.Answered.{send_limited}
 use Rattle.net_steps.specs.declared.world.World.{World}
+use Rattle.net_steps.specs.Askers.{HoldsAskers}
 use Rattle.net_steps.specs.Devices.{HoldsDevices}
 use Rattle.net_steps.specs.Steps.{HavePlansBelow}
 use Rattle.net_steps.specs.Carrying.{IsToCarry, IsCarried, IsOverFault}
 use Rattle.net_steps.specs.Delivering.{IsToBring, IsBrought, Brings}
-use Rattle.net_steps.proofs.Carried.{to_carry, carried_held, over_carried, gates_stay}
+use Rattle.net_steps.proofs.Carried.{asked_stay, to_carry, carried_held, over_carried, gates_stay}
 
 -- no depot ends what fails to be sent
 pub send_apart : {T : Type 0} (result : Result T WorldFault) → IfErr result IsSendFault → IfErr result (λ e. e ≢ DepotFailed)
@@ -46,7 +47,7 @@ module _ {D : Type 0} (state : D → DiskState) (images : D → ℕ → List ℕ
     mid = record old { wire = wire }
 
     pub to_carry_on : IsToCarry state n v (step_of s.lucks) lines mid
-    to_carry_on = to_carry state n v x.reached x.packets (events.Deliver packet) s.lucks (step_of s.lucks) refl lines x.first mid x.net s.held s.lines_are x.devices x.network
+    to_carry_on = to_carry state n v x.reached x.packets x.stores x.schemas (events.Deliver packet) s.lucks (step_of s.lucks) refl lines x.first mid x.net s.held s.lines_are x.devices x.askers x.network
 
     pub brings_carry : (n : Net) × (v : Wire) × (s : WireStep) × IsToCarry state n v s lines mid
     brings_carry = (n, v, step_of s.lucks, to_carry_on)
@@ -60,7 +61,8 @@ module _ {D : Type 0} (state : D → DiskState) (images : D → ℕ → List ℕ
         → IsBrought state images n v packet s.lucks told is_after old (record old { wire = wire; network = network })
     behind network told k = record {
       lines_are = k.lines_are;
-      held = carried_held state n (step_of s.lucks) told (record old { wire = wire; network = network }) k s.held gates_are (subst (HoldsDevices n.devices) (sym x.devices) x.net.devices) x.net.numbered;
+      held = carried_held state n (step_of s.lucks) told (record old { wire = wire; network = network }) k s.held gates_are (subst (HoldsDevices n.devices) (sym x.devices) x.net.devices) x.net.numbered
+          (subst (HoldsAskers n.askers) (sym x.askers) x.net.askers) (asked_stay n v x.reached x.schemas (events.Deliver packet) refl s.lucks x.net.asked);
       moved = s.moved;
     }
 

@@ -1,6 +1,9 @@
 -- What a step of the wire is to the world, and what it leaves of the rest.
-use Rattle.std.proofs.Common.{◌≡◌, inl, inr, ℕ, ◌≤◌, ◌<◌, false, List, ◌++◌, Some, refl, sym, ◌∙◌, ap, subst, true≢false, arith}
+use Rattle.std.proofs.Common.{◌≡◌, inl, inr, ℕ, ◌≤◌, ◌<◌, Bool, true, false, List, [], ◌++◌, Some, refl, sym, ◌∙◌, ap, subst, true≢false, arith}
 use Rattle.std.specs.Prelude.{map}
+use Rattle.std.specs.Ordering.{nat_cmp}
+use Rattle.std.specs.Map.{lookup}
+use Rattle.std.specs.BTreeMap.{is_at}
 use Rattle.disk_trait.specs.Calls.{DiskState}
 use Rattle.stab_base.specs.declared.node.Node.{Node}
 use Rattle.row_value.specs.declared.schema.Schema.{Schema}
@@ -10,7 +13,7 @@ use Rattle.table_model.specs.declared.event.Event.TheVariants as events
 use Rattle.table_model.specs.declared.line.TextLine.{TextLine}
 use Rattle.step_tables.specs.Lines.{line_of}
 use Rattle.world_tables.specs.Sound.{is_declaration}
-use Rattle.world_tables.specs.World.{World as AWorld, Lucks}
+use Rattle.world_tables.specs.World.{World as AWorld, Lucks, owner_by}
 use Rattle.name_laws.proofs.Steps.{stores_by, schemas_by, step_stepped}
 use Rattle.wire_tables.specs.Wire.{PartPacket, PartOutbox, Wire, WireStep, start, wire_step}
 use Rattle.wire_tables.specs.Wire as wires
@@ -21,7 +24,7 @@ use Rattle.wire_laws.proofs.WireSteps.{all_come}
 use Rattle.wire_laws.proofs.WireRuns.{IsGoing, going_ground, run_goes}
 use Rattle.part_network.specs.Packets.{most_bytes, bytes_of}
 use Rattle.gated_tables.specs.Devices.{Device}
-use Rattle.gated_tables.specs.Net.{Net, Sent, device_at, asks_in, carried_on}
+use Rattle.gated_tables.specs.Net.{Net, device_at, carried_on}
 use Rattle.gated_laws.specs.Runs.{IsReached}
 use Rattle.gated_laws.proofs.NetLines.{packets_by}
 use Rattle.gated_laws.proofs.Remembered.{shaped}
@@ -32,10 +35,12 @@ use Rattle.net_network.specs.declared.network.Network.{Network}
 use Rattle.wire_steps.specs.Holds as holds
 use Rattle.wire_steps.specs.Reached as wire_reached
 use Rattle.net_steps.specs.declared.world.World.{World}
+use Rattle.net_steps.specs.Askers.{AreAsked, HoldsAskers}
 use Rattle.net_steps.specs.Devices.{HoldsDevices}
 use Rattle.net_steps.specs.Holds.{Holds}
-use Rattle.net_steps.specs.Carrying.{IsToCarry, IsCarried, IsPlainStep}
-use Rattle.net_steps.proofs.Routed.{sent_is, bytes_carried}
+use Rattle.net_steps.specs.Carrying.{AreSame, IsToCarry, IsCarried, IsPlainStep}
+use Rattle.net_steps.specs.Walking.{IsSameTable}
+use Rattle.net_steps.proofs.Routed.{bytes_carried}
 use Rattle.net_steps.proofs.Uncounted.{plain_on}
 
 -- ---- the wire of a world that is reached
@@ -97,34 +102,70 @@ gates_stay n v r stores schemas event plain lucks world h =
     subst (λ (l : List ℕ). HoldsGates l (wire_step v event lucks).wire.world.schemas n.gates world.gates) (sym (stores_stay v r event plain lucks ∙ stores))
     (subst (λ (l : List (ℕ × Schema)). HoldsGates n.wire.world.stores l n.gates world.gates) (sym (schemas_stay v r event plain lucks ∙ schemas)) h)
 
+-- and each table is at its Store, with its schema
+same_table : (w after : AWorld) → after.stores ≡ w.stores → after.schemas ≡ w.schemas → (table : ℕ) → IsSameTable w after table
+same_table w after stores schemas table = record {
+  owner = ap (λ (l : List ℕ). owner_by l (lookup (is_at (nat_cmp table)) after.schemas)) stores
+      ∙ ap (λ (l : List (ℕ × Schema)). owner_by w.stores (lookup (is_at (nat_cmp table)) l)) schemas;
+  schema = ap (λ (l : List (ℕ × Schema)). lookup (is_at (nat_cmp table)) l) schemas;
+}
+
+-- a declaration tells nothing
+quiet : (v : Wire) (event : Event) (lucks : Lucks) → is_declaration event ≡ true → (wire_step v event lucks).outs ≡ []
+quiet v (events.Store number) lucks is = refl
+quiet v (events.Gate number) lucks is = refl
+quiet v (events.Table table schema) lucks is = refl
+quiet v (events.Draft table schema) lucks is = refl
+quiet v (events.Client c gate tables) lucks is = refl
+quiet v other lucks is = absurd (true≢false (sym is))
+
+pub same_by : (n : Net) (v : Wire) → wire_reached.IsReached v → v.world.stores ≡ n.wire.world.stores → v.world.schemas ≡ n.wire.world.schemas → (event : Event) (lucks : Lucks)
+    → AreSame n (wire_step v event lucks)
+same_by n v r stores schemas event lucks = go (is_declaration event) refl
+  where
+    go : (b : Bool) → is_declaration event ≡ b → AreSame n (wire_step v event lucks)
+    go true is = inr (quiet v event lucks is)
+    go false is = inl (same_table n.wire.world (wire_step v event lucks).wire.world (stores_stay v r event is lucks ∙ stores) (schemas_stay v r event is lucks ∙ schemas))
+
+-- who asked is known still
+pub asked_stay : (n : Net) (v : Wire) → wire_reached.IsReached v → v.world.schemas ≡ n.wire.world.schemas → (event : Event) → is_declaration event ≡ false → (lucks : Lucks)
+    → AreAsked n.askers n.wire.world.schemas → AreAsked n.askers (wire_step v event lucks).wire.world.schemas
+asked_stay n v r schemas event plain lucks k = subst (λ (l : List (ℕ × Schema)). AreAsked n.askers l) (sym (schemas_stay v r event plain lucks ∙ schemas)) k
+
 -- ---- a step of the wire
 
 pub packets_grow : (v : Wire) → wire_reached.IsReached v → (event : Event) (lucks : Lucks) → (wire_step v event lucks).wire.packets ≡ v.packets ++ packets_by (wire_step v event lucks).outs
 packets_grow v r event lucks = (shaped v (wire_remembered v r.run r.is) event lucks).packets
 
 -- Of a wire that has sent what the net's has: the program's world has carried out this step of it, and all else is as it was.
-pub to_carry : {D : Type 0} (state : D → DiskState) (n : Net) (v : Wire) → wire_reached.IsReached v → v.packets ≡ n.wire.packets → (event : Event) (lucks : Lucks) (s : WireStep)
+pub to_carry : {D : Type 0} (state : D → DiskState) (n : Net) (v : Wire) → wire_reached.IsReached v → v.packets ≡ n.wire.packets
+    → v.world.stores ≡ n.wire.world.stores → v.world.schemas ≡ n.wire.world.schemas → (event : Event) (lucks : Lucks) (s : WireStep)
     → s ≡ wire_step v event lucks → (lines : List TextLine) (old new : World D) → Holds state n old → holds.Holds state s.wire new.wire → map line_of lines ≡ wires.lines_of v s
-    → new.devices ≡ old.devices → new.network ≡ old.network → IsToCarry state n v s lines new
-to_carry {D} state n v r same event lucks s is lines old new h held told devices network = record {
-  held = held;
+    → new.devices ≡ old.devices → new.askers ≡ old.askers → new.network ≡ old.network → IsToCarry state n v s lines new
+to_carry {D} state n v r same stores schemas event lucks s is lines old new h held told devices askers network = record {
+  along = record {
+    wire = held;
+    devices = subst (HoldsDevices n.devices) (sym devices) h.devices;
+    numbered = h.numbered;
+    askers = subst (HoldsAskers n.askers) (sym askers) h.askers;
+    asked = h.asked;
+  };
   told = told;
   packets = same;
   grown = subst (λ (x : WireStep). x.wire.packets ≡ n.wire.packets ++ packets_by x.outs) (sym is)
       (packets_grow v r event lucks ∙ ap (λ (ps : List PartPacket). ps ++ packets_by (wire_step v event lucks).outs) same);
   plain = subst IsPlainStep (sym is) (plain_on v r.run r.built r.is event lucks);
-  devices = subst (HoldsDevices n.devices) (sym devices) h.devices;
+  same = subst (AreSame n) (sym is) (same_by n v r stores schemas event lucks);
   sent = subst (λ (x : Network). HasSent x n.wire.packets n.sent) (sym network) h.sent;
   short = h.short;
   bytes = h.bytes;
-  numbered = h.numbered;
 }
 
 -- what was carried is held
 pub carried_held : {D : Type 0} (state : D → DiskState) (n : Net) (s : WireStep) (lines : List TextLine) (world : World D) → IsCarried n s lines world.network → holds.Holds state s.wire world.wire
     → HoldsGates s.wire.world.stores s.wire.world.schemas n.gates world.gates → HoldsDevices n.devices world.devices → ((c : ℕ) (d : Device) → device_at n c ≡ Some d → IsClient c)
-    → Holds state (carried_on n s).net world
-carried_held state n s lines world k held gates devices numbered = record {
+    → HoldsAskers n.askers world.askers → AreAsked n.askers s.wire.world.schemas → Holds state (carried_on n s).net world
+carried_held state n s lines world k held gates devices numbered askers asked = record {
   wire = held;
   gates = gates;
   devices = devices;
@@ -132,13 +173,13 @@ carried_held state n s lines world k held gates devices numbered = record {
   short = k.short;
   bytes = k.bytes;
   numbered = numbered;
+  askers = askers;
+  asked = asked;
 }
 
 pub bytes_behind : (n : Net) (s : WireStep) → bytes_of n.wire.packets ≤ net_bytes n.sent → s.wire.packets ≡ n.wire.packets ++ packets_by s.outs → bytes_of s.wire.packets ≤ net_bytes (carried_on n s).net.sent
 bytes_behind n s h grown =
-    subst (λ (ps : List PartPacket). bytes_of ps ≤ net_bytes (carried_on n s).net.sent) (sym grown)
-    (subst (λ (l : List Sent). bytes_of (n.wire.packets ++ packets_by s.outs) ≤ net_bytes (n.sent ++ l)) (sym (sent_is n (asks_in n s.outs) s.outs))
-    (bytes_carried n n.wire.packets n.sent (asks_in n s.outs) (packets_by s.outs) h))
+    subst (λ (ps : List PartPacket). bytes_of ps ≤ net_bytes (carried_on n s).net.sent) (sym grown) (bytes_carried n n.wire.packets n.sent s.outs h)
 
 pub less_than : (a b c : ℕ) → a < b → b ≤ c → a < c
 less_than a b c x y = omega arith

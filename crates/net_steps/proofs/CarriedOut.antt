@@ -23,7 +23,7 @@ use Rattle.net_steps.specs.Holds.{Holds, IsAt}
 use Rattle.net_steps.specs.Steps.{IsMoved, IsDone, IsPast, IsStep, IsOver, IsUndone, Spends}
 use Rattle.net_steps.specs.Calls.{Comes, Overruns, IsCarriedOn}
 use Rattle.net_steps.specs.Carrying.{IsToCarry, IsCarried, IsOverFault}
-use Rattle.net_steps.proofs.Carried.{wire_of, gates_stay, to_carry, carried_held, over_carried}
+use Rattle.net_steps.proofs.Carried.{wire_of, gates_stay, asked_stay, to_carry, carried_held, over_carried}
 
 -- ---- the wire in the world
 
@@ -60,7 +60,7 @@ module _ {D : Type 0} (state : D → DiskState) (images : D → ℕ → List ℕ
     s = wire_step n.wire event k.lucks
 
     pub to_carry_on : IsToCarry state n n.wire s lines (with_wire wire old.network old)
-    to_carry_on = to_carry state n n.wire (wire_of n reached) refl event k.lucks s refl lines old (with_wire wire old.network old) at.held k.held k.lines_are refl refl
+    to_carry_on = to_carry state n n.wire (wire_of n reached) refl refl refl event k.lucks s refl lines old (with_wire wire old.network old) at.held k.held k.lines_are refl refl refl
 
     moved_by : (network : Network) → IsMoved state images n (is_net_fault n event k.lucks) s.wire is_out old (with_wire wire network old)
     moved_by network = subst (λ (failed : Bool). IsMoved state images n failed s.wire is_out old (with_wire wire network old)) (sym (on.fault k.lucks))
@@ -69,6 +69,7 @@ module _ {D : Type 0} (state : D → DiskState) (images : D → ℕ → List ℕ
     held_by : (network : Network) (told : List TextLine) → IsCarried n s told network → Holds state (carried_on n s).net (with_wire wire network old)
     held_by network told c = carried_held state n s told (with_wire wire network old) c k.held
         (gates_stay n n.wire (wire_of n reached) refl refl event on.plain k.lucks (with_wire wire network old) at.held.gates) at.held.devices at.held.numbered
+        at.held.askers (asked_stay n n.wire (wire_of n reached) refl event on.plain k.lucks at.held.asked)
 
     pub carry_comes : (network : Network) (result : Result (List TextLine) WorldFault) → IfOk result (λ told. IsCarried n s told network)
         → Comes state images n event is_out result old (with_wire wire network old)
@@ -112,7 +113,7 @@ module _ {D : Type 0} (state : D → DiskState) (images : D → ℕ → List ℕ
 pub step_undone : {D : Type 0} (state : D → DiskState) (n : Net) (is_out : ℕ → Bool) (old : World D) → Holds state n old → (wire : wire_world.World D)
     → wires.IsUndone state n.wire is_out old.wire wire → IsUndone state n is_out old (with_wire wire old.network old)
 step_undone state n is_out old h wire k = record {
-  held = record { wire = k.held; gates = h.gates; devices = h.devices; sent = h.sent; short = h.short; bytes = h.bytes; numbered = h.numbered };
+  held = record { wire = k.held; gates = h.gates; devices = h.devices; sent = h.sent; short = h.short; bytes = h.bytes; numbered = h.numbered; askers = h.askers; asked = h.asked };
   out = k.out;
   same = k.same;
 }

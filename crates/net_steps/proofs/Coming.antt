@@ -16,7 +16,7 @@ use Rattle.gated_tables.specs.Net.{net_step, refused, still, to_client, to_gate,
 use Rattle.gated_laws.specs.Carried.{IsNoGate}
 use Rattle.gated_laws.proofs.HandedOn.{part_back, part_stamped, way_of}
 use Rattle.gated_laws.proofs.KeptWires.{parts_go}
-use Rattle.gated_laws.proofs.Reached.{IsPacketOf, before_reached, packet_of, kept_wire, brought_to_client, brought_to_store}
+use Rattle.gated_laws.proofs.Reached.{IsPacketOf, before_reached, packet_of, kept_wire, brought_to_client}
 use Rattle.net_network.specs.Packets.{IsPartIf, IsWayAt, IsWayOf}
 use Rattle.net_network.specs.declared.packet.Way.{Way}
 use Rattle.net_steps.specs.declared.world.World.{World}
@@ -37,7 +37,7 @@ module _ {D : Type 0} (state : D → DiskState) (is_out : ℕ → Bool) (number 
   sent_as : IsPacketOf x.n.wire packet.part to
   sent_as = packet_of x.n x.here.reached number x.one x.stands packet.part part_here to party x.to_is
 
-  goes : (q : PartPacket) (place : ℕ) → slice_get x.n.wire.packets place ≡ Some q → q.to ≡ way_of (owner_of x.n.wire.world) q.part
+  pub goes : (q : PartPacket) (place : ℕ) → slice_get x.n.wire.packets place ≡ Some q → q.to ≡ way_of (owner_of x.n.wire.world) q.part
   goes q place at = (parts_go x.n.wire (kept_wire x.n x.here.reached) q (among_get x.n.wire.packets place q at)).to
 
   pub goes_to : packet.to ≡ x.one.to
@@ -70,16 +70,6 @@ module _ {D : Type 0} (state : D → DiskState) (is_out : ℕ → Bool) (number 
     client_linked d at lucks = by_device lucks (Some d) at
         ∙ ap (λ (s : WireStep). let t : NetStep = carried_on x.n s in record t { net = cut_by c d t.net })
         (by_wire (cutting c d.linked x.n.wire) (stands state is_out number from (nodes.Client c) part old x tt) lucks)
-
-  module _ (store : ℕ) (x : IsComing state is_out number from (nodes.Store store) (Some part) old) where
-    abbrev pub there_packet : PartPacket
-    there_packet = packet state is_out number from (nodes.Store store) part old x tt
-
-    pub store_wired : (lucks : Lucks) → to_store x.n store x.one lucks (part_of x.one.message) ≡ step_brought x.n x.n.wire part.0 lucks
-    store_wired lucks = ap (to_store x.n store x.one lucks) (part_here state is_out number from (nodes.Store store) part old x tt)
-        ∙ ap (carried_on x.n)
-        (brought_to_store x.n x.here.reached part.0 there_packet (stands state is_out number from (nodes.Store store) part old x tt) x.one.to there_packet.part refl
-        (goes_to state is_out number from (nodes.Store store) part old x tt) store x.to_is lucks)
 
 -- ---- a message of a number
 

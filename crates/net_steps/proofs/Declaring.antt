@@ -1,6 +1,6 @@
 -- A Store, a table or a gateway that is declared.
 use Rattle.std.proofs.Common.{◌≡◌, inl, inr, ⊎_elim, ℕ, Bool, true, false, List, Option, Some, None, Result, Ok, Err, refl, sym, ◌∙◌, ap, subst}
-use Rattle.std.specs.Prelude.{is_some, IfErr, if◌then◌else◌}
+use Rattle.std.specs.Prelude.{is_some, if◌then◌else◌}
 use Rattle.std.specs.Ordering.{nat_cmp}
 use Rattle.std.specs.BTreeMap.{insert_entry}
 use Rattle.disk_trait.specs.Calls.{DiskState}
@@ -13,26 +13,31 @@ use Rattle.table_model.specs.declared.table_state.TableState.TheVariants as stat
 use Rattle.table_model.specs.declared.line.TextLine.{TextLine}
 use Rattle.step_tables.specs.Messages.{Luck}
 use Rattle.step_tables.specs.Messages as messages
+use Rattle.world_laws.proofs.Looks.{look_cases}
 use Rattle.world_tables.specs.World.{World as AWorld, Hosted, Lucks, declared, made_with, schema_at, hosted_at, first_luck}
+use Rattle.fair_laws.specs.Reached.{IsBuilt}
 use Rattle.fair_laws.specs.Worlds.{IsFair}
+use Rattle.fair_laws.proofs.Hosting.{all_after}
 use Rattle.fair_laws.proofs.Worlds.{reached_fair}
 use Rattle.wire_tables.specs.Wire.{WireStep, wire_step}
 use Rattle.wire_tables.specs.Faults.{is_wire_fault}
 use Rattle.gate_tables.specs.Gate.{Gateway}
 use Rattle.gate_host.specs.declared.gates.Gates.{Gates}
 use Rattle.gate_host.specs.Holds.{HoldsGates}
-use Rattle.gate_host.specs.Moves.{with_schema, added, gate_in}
+use Rattle.gate_host.specs.Moves.{with_schema, schema_in, added}
 use Rattle.gated_tables.specs.Faults.{is_net_fault}
-use Rattle.gated_tables.specs.Net.{Net, NetStep, gate_at, gate_declared, net_step, carried_on}
+use Rattle.gated_tables.specs.Net.{Net, NetStep, Asker, gate_at, gate_declared, net_step, carried_on}
 use Rattle.gated_laws.specs.Runs.{IsReached}
 use Rattle.node_steps.specs.declared.fault.WorldFault.{WorldFault}
 use Rattle.node_steps.specs.declared.fault.WorldFault.TheVariants.{Limit as LimitPassed}
 use Rattle.wire_steps.specs.Calls.{IsLimitedBy}
 use Rattle.wire_steps.specs.Steps as wires
+use Rattle.net_network.specs.Short.{IsFramed}
 use Rattle.net_steps.specs.declared.kinds.Kind.TheVariants as kinds
 use Rattle.net_steps.specs.declared.world.World.{World}
+use Rattle.net_steps.specs.Askers.{AreAsked, HoldsAskers}
 use Rattle.net_steps.specs.Devices.{HoldsDevices}
-use Rattle.net_steps.specs.Holds.{Holds}
+use Rattle.net_steps.specs.Holds.{Holds, IsFramedEvent}
 use Rattle.net_steps.specs.Kinds.{kind_of}
 use Rattle.net_steps.specs.Steps.{IsMoved, IsDone, IsPast, IsStep, IsOver, Spends}
 use Rattle.net_steps.specs.Through.{IsStood, IsThrough, IsBeyond, stores_with, schemas_with, gates_with}
@@ -89,7 +94,57 @@ gates_known n r (events.WorkAll (nodes.Gate g)) is lucks gs gates h = absurd cc
 gates_known n r (events.Crash (nodes.Gate g) calls pick) is lucks gs gates h = absurd cc
 gates_known n r (events.Start (nodes.Gate g)) is lucks gs gates h = absurd cc
 gates_known n r (events.Start (nodes.Client d)) is lucks gs gates h = absurd cc
+gates_known n r (events.Create (nodes.Client d) table) is lucks gs gates h = absurd cc
+gates_known n r (events.Create (nodes.Store d) table) is lucks gs gates h = absurd cc
+gates_known n r (events.Create (nodes.Gate d) table) is lucks gs gates h = absurd cc
+gates_known n r (events.Drop (nodes.Client d) table) is lucks gs gates h = absurd cc
+gates_known n r (events.Drop (nodes.Store d) table) is lucks gs gates h = absurd cc
+gates_known n r (events.Drop (nodes.Gate d) table) is lucks gs gates h = absurd cc
 gates_known n r other is lucks gs gates h = absurd cc
+
+-- who asked is known still, and frames have room for each schema
+put_asked : (askers : List (ℕ × Asker)) (schemas : List (ℕ × Schema)) (table : ℕ) (schema : Schema) → IsFramed schema → AreAsked askers schemas
+    → AreAsked askers (insert_entry nat_cmp schemas table schema)
+put_asked askers schemas table schema new k = record {
+  each = λ t a at. let e = k.each t a at in (e.0, ⊎_elim (λ here. ap is_some here.1) (λ other. ap is_some other.1 ∙ e.1) (look_cases schemas table schema t));
+  framed = all_after (λ (t : ℕ) (s : Schema). IsFramed s) schemas table schema new k.framed;
+}
+
+with_asked : (askers : List (ℕ × Asker)) (schemas : List (ℕ × Schema)) (table : ℕ) (schema : Schema) → IsFramed schema → AreAsked askers schemas → AreAsked askers (with_schema table schema schemas)
+with_asked askers schemas table schema new k = go (is_some (schema_in schemas table))
+  where
+    go : (b : Bool) → AreAsked askers (if b then schemas else insert_entry nat_cmp schemas table schema)
+    go true = k
+    go false = put_asked askers schemas table schema new k
+
+table_asked : (n : Net) → IsReached n → (table : ℕ) (schema : Schema) (stage : TableState) (lucks : Lucks) → IsFramed schema → AreAsked n.askers n.wire.world.schemas
+    → AreAsked n.askers (declared n.wire.world table schema stage (first_luck lucks.calls) (hosted_at n.wire.world table)).schemas
+table_asked n r table schema stage lucks new k =
+    let w : AWorld = n.wire.world in
+    let f : IsFair w = reached_fair w (world_of_reached n r) in
+    subst (λ (l : List (ℕ × Schema)). AreAsked n.askers l) (sym (declared_schemas w table schema stage (first_luck lucks.calls) (hosted_at w table) (f.both table)))
+    (with_asked n.askers w.schemas table schema new k)
+
+asked_known : (n : Net) → IsReached n → (event : Event) → kind_of event ≡ kinds.Declare → IsBuilt event → IsFramedEvent event → (lucks : Lucks) → AreAsked n.askers n.wire.world.schemas
+    → AreAsked n.askers (wire_step n.wire event lucks).wire.world.schemas
+asked_known n r (events.Store number) is built framed lucks k = k
+asked_known n r (events.Gate number) is built framed lucks k = k
+asked_known n r (events.Table table schema) is built framed lucks k = table_asked n r table schema states.Live lucks (record { spelled = built.spelled; short = framed }) k
+asked_known n r (events.Draft table schema) is built framed lucks k = table_asked n r table schema states.Draft lucks (record { spelled = built.spelled; short = framed }) k
+asked_known n r (events.Hold (nodes.Gate g)) is built framed lucks k = absurd cc
+asked_known n r (events.Free (nodes.Gate g)) is built framed lucks k = absurd cc
+asked_known n r (events.Work (nodes.Gate g)) is built framed lucks k = absurd cc
+asked_known n r (events.WorkAll (nodes.Gate g)) is built framed lucks k = absurd cc
+asked_known n r (events.Crash (nodes.Gate g) calls pick) is built framed lucks k = absurd cc
+asked_known n r (events.Start (nodes.Gate g)) is built framed lucks k = absurd cc
+asked_known n r (events.Start (nodes.Client d)) is built framed lucks k = absurd cc
+asked_known n r (events.Create (nodes.Client d) table) is built framed lucks k = absurd cc
+asked_known n r (events.Create (nodes.Store d) table) is built framed lucks k = absurd cc
+asked_known n r (events.Create (nodes.Gate d) table) is built framed lucks k = absurd cc
+asked_known n r (events.Drop (nodes.Client d) table) is built framed lucks k = absurd cc
+asked_known n r (events.Drop (nodes.Store d) table) is built framed lucks k = absurd cc
+asked_known n r (events.Drop (nodes.Gate d) table) is built framed lucks k = absurd cc
+asked_known n r other is built framed lucks k = absurd cc
 
 -- ---- as a step of the wire
 
@@ -116,6 +171,12 @@ declared_step n (events.WorkAll (nodes.Gate g)) is lucks = absurd cc
 declared_step n (events.Crash (nodes.Gate g) calls pick) is lucks = absurd cc
 declared_step n (events.Start (nodes.Gate g)) is lucks = absurd cc
 declared_step n (events.Start (nodes.Client d)) is lucks = absurd cc
+declared_step n (events.Create (nodes.Client d) table) is lucks = absurd cc
+declared_step n (events.Create (nodes.Store d) table) is lucks = absurd cc
+declared_step n (events.Create (nodes.Gate d) table) is lucks = absurd cc
+declared_step n (events.Drop (nodes.Client d) table) is lucks = absurd cc
+declared_step n (events.Drop (nodes.Store d) table) is lucks = absurd cc
+declared_step n (events.Drop (nodes.Gate d) table) is lucks = absurd cc
 declared_step n other is lucks = absurd cc
 
 declared_fault : (n : Net) (event : Event) → kind_of event ≡ kinds.Declare → (lucks : Lucks) → is_net_fault n event lucks ≡ is_wire_fault n.wire event lucks
@@ -130,6 +191,12 @@ declared_fault n (events.WorkAll (nodes.Gate g)) is lucks = absurd cc
 declared_fault n (events.Crash (nodes.Gate g) calls pick) is lucks = absurd cc
 declared_fault n (events.Start (nodes.Gate g)) is lucks = absurd cc
 declared_fault n (events.Start (nodes.Client d)) is lucks = absurd cc
+declared_fault n (events.Create (nodes.Client d) table) is lucks = absurd cc
+declared_fault n (events.Create (nodes.Store d) table) is lucks = absurd cc
+declared_fault n (events.Create (nodes.Gate d) table) is lucks = absurd cc
+declared_fault n (events.Drop (nodes.Client d) table) is lucks = absurd cc
+declared_fault n (events.Drop (nodes.Store d) table) is lucks = absurd cc
+declared_fault n (events.Drop (nodes.Gate d) table) is lucks = absurd cc
 declared_fault n other is lucks = absurd cc
 
 declared_spends : (m : ℕ) (n : Net) (event : Event) → kind_of event ≡ kinds.Declare → wires.Spends m n.wire.world event → Spends m n event
@@ -144,6 +211,12 @@ declared_spends m n (events.WorkAll (nodes.Gate g)) is k = absurd cc
 declared_spends m n (events.Crash (nodes.Gate g) calls pick) is k = absurd cc
 declared_spends m n (events.Start (nodes.Gate g)) is k = absurd cc
 declared_spends m n (events.Start (nodes.Client d)) is k = absurd cc
+declared_spends m n (events.Create (nodes.Client d) table) is k = absurd cc
+declared_spends m n (events.Create (nodes.Store d) table) is k = absurd cc
+declared_spends m n (events.Create (nodes.Gate d) table) is k = absurd cc
+declared_spends m n (events.Drop (nodes.Client d) table) is k = absurd cc
+declared_spends m n (events.Drop (nodes.Store d) table) is k = absurd cc
+declared_spends m n (events.Drop (nodes.Gate d) table) is k = absurd cc
 declared_spends m n other is k = absurd cc
 
 pub limited_as : {T A B : Type 0} → (A → B) → (result : Result T WorldFault) → IsLimitedBy A result → IsLimitedBy B result
@@ -173,11 +246,11 @@ module _ {D : Type 0} (state : D → DiskState) (images : D → ℕ → List ℕ
       )
 
   -- the gateways have learned of it
-  pub declare_done : mid ≡ record old { wire = mid.wire; network = mid.network } → (new : World D) → new ≡ record mid { gates = new.gates }
+  pub declare_done : IsBuilt event → IsFramedEvent event → mid ≡ record old { wire = mid.wire; network = mid.network } → (new : World D) → new ≡ record mid { gates = new.gates }
       → ((stores : List ℕ) (schemas : List (ℕ × Schema)) (gates : List (ℕ × Gateway)) → HoldsGates stores schemas gates mid.gates
       → HoldsGates (stores_with event stores) (schemas_with event schemas) (gates_with event gates) new.gates)
       → (lines : List TextLine) → (lucks : Lucks) × IsThrough state images n event lucks lines is_out old mid → IsStep state images n event lines is_out old new
-  declare_done rest new same told lines k = (k.0, as_declared k.0 lines new done)
+  declare_done built framed rest new same told lines k = (k.0, as_declared k.0 lines new done)
     where
       s : WireStep
       s = wire_step n.wire event k.0
@@ -201,6 +274,8 @@ module _ {D : Type 0} (state : D → DiskState) (images : D → ℕ → List ℕ
         short = k.1.carried.short;
         bytes = k.1.carried.bytes;
         numbered = x.held.numbered;
+        askers = subst (λ (y : World D). HoldsAskers n.askers y.askers) (sym rest) x.held.askers;
+        asked = asked_known n x.reached event kind built framed k.0 x.held.asked;
       }
 
       done : IsDone state images n (declared_by n event k.0) (is_wire_fault n.wire event k.0) lines is_out old new

@@ -62,6 +62,12 @@ deed_of (events.Work (nodes.Gate g)) gate deed is = same_deed (events.Work (node
 deed_of (events.WorkAll (nodes.Gate g)) gate deed is = same_deed (events.WorkAll (nodes.Gate g)) g gate deeds.WorkAll deed is refl
 deed_of (events.Crash (nodes.Gate g) calls pick) gate deed is = same_deed (events.Crash (nodes.Gate g) calls pick) g gate deeds.Crash deed is (calls, pick, refl)
 deed_of (events.Start (nodes.Gate g)) gate deed is = same_deed (events.Start (nodes.Gate g)) g gate deeds.Start deed is refl
+deed_of (events.Create (nodes.Client k) table) gate deed is = absurd cc
+deed_of (events.Create (nodes.Store k) table) gate deed is = absurd cc
+deed_of (events.Create (nodes.Gate k) table) gate deed is = absurd cc
+deed_of (events.Drop (nodes.Client k) table) gate deed is = absurd cc
+deed_of (events.Drop (nodes.Store k) table) gate deed is = absurd cc
+deed_of (events.Drop (nodes.Gate k) table) gate deed is = absurd cc
 deed_of other gate deed is = absurd cc
 
 -- ---- a gateway that is down, or up
@@ -148,7 +154,7 @@ promised_as {D} state images n event x is is_out result old new k b =
 
 gates_hold : {D : Type 0} (state : D → DiskState) (n : Net) (old : World D) → Holds state n old → (it : Gates) (gates : List (ℕ × Gateway))
     → HoldsGates n.wire.world.stores n.wire.world.schemas gates it → Holds state (record n { gates = gates }) (record old { gates = it })
-gates_hold state n old h it gates k = record { wire = h.wire; gates = k; devices = h.devices; sent = h.sent; short = h.short; bytes = h.bytes; numbered = h.numbered }
+gates_hold state n old h it gates k = record { wire = h.wire; gates = k; devices = h.devices; sent = h.sent; short = h.short; bytes = h.bytes; numbered = h.numbered; askers = h.askers; asked = h.asked }
 
 as_error : {T : Type 0} (result : Result T GateFault) (fault e : GateFault) → result ≡ Err fault → fault ≡ e → IsErrOf result e
 as_error result fault e is same = cc

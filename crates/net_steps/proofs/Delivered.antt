@@ -1,10 +1,9 @@
 -- What a delivery comes to, where nothing is done to the wire.
-use Rattle.std.proofs.Common.{◌≡◌, ◌≢◌, ◌⊎◌, inl, inr, ⊎_elim, ℕ, suc, ◌+◌, Bool, false, List, [], ◌∷◌, map, None, Result, Ok, Err, refl, sym, ◌∙◌, ap, subst, arith}
+use Rattle.std.proofs.Common.{◌≡◌, ◌≢◌, inl, inr, ⊎_elim, ℕ, suc, ◌+◌, Bool, false, List, [], ◌∷◌, map, None, Result, Ok, Err, refl, sym, ◌∙◌, ap, subst, arith}
 use Rattle.std.specs.Prelude.{IfOk, IfErr, slice_get, length}
 use Rattle.disk_trait.specs.Calls.{DiskState}
 use Rattle.disk_trait.specs.Image.{IsImage}
 use Rattle.stab_base.specs.declared.node.Node.{Node}
-use Rattle.stab_base.specs.declared.node.Node.TheVariants as nodes
 use Rattle.table_model.specs.declared.event.Event.TheVariants as events
 use Rattle.table_model.specs.declared.line.TextLine.{TextLine}
 use Rattle.step_tables.specs.Facts.{Answer, AnswerLine}
@@ -24,9 +23,9 @@ use Rattle.wire_steps.proofs.Answered.{plans_later, send_limited}
 use Rattle.wire_steps.proofs.Stepped.{plans_as}
 use Rattle.net_steps.specs.declared.world.World.{World}
 use Rattle.net_steps.specs.Holds.{Holds}
-use Rattle.net_steps.specs.Steps.{IsMoved, IsDone, IsPast, HavePlansBelow}
+use Rattle.net_steps.specs.Steps.{IsMoved, IsDone, IsPast, IsUndone, HavePlansBelow}
 use Rattle.net_steps.specs.Calls.{Leaves}
-use Rattle.net_steps.specs.Delivering.{IsUpIn, IsToBring, IsBrought, IsBroughtPast, Brings, Delivers, SpendsHere, step_brought}
+use Rattle.net_steps.specs.Delivering.{IsUpIn, IsToBring, IsBrought, IsBroughtPast, Brings, ComesTo, Delivers, SpendsHere, step_brought}
 use Rattle.net_steps.proofs.Moved.{still_moved, wire_moved, wire_of_reached}
 use Rattle.net_steps.proofs.Brought.{send_apart}
 use Rattle.net_steps.proofs.Coming.{absent_step}
@@ -58,6 +57,31 @@ module _ {D : Type 0} (state : D → DiskState) (images : D → ℕ → List ℕ
   pub delivers_as : (f g : Lucks → NetStep) → ((lucks : Lucks) → f lucks ≡ g lucks) → (result : Result (List TextLine) WorldFault) (is_out : ℕ → Bool) (old new : World D)
       → Delivers state images n g result is_out old new → Delivers state images n f result is_out old new
   delivers_as f g is result is_out old new d = record { done = dones result d.done; over = overs result d.over; limit = d.limit; plans = d.plans; apart = d.apart }
+    where
+      dones : (r : Result (List TextLine) WorldFault) → IfOk r (λ lines. (lucks : Lucks) × IsDone state images n (g lucks) (is_fault_answer (g lucks).answer) lines is_out old new)
+          → IfOk r (λ lines. (lucks : Lucks) × IsDone state images n (f lucks) (is_fault_answer (f lucks).answer) lines is_out old new)
+      dones (Err e) k = tt
+      dones (Ok lines) k = (k.0, subst (λ (s : NetStep). IsDone state images n s (is_fault_answer s.answer) lines is_out old new) (sym (is k.0)) k.1)
+
+      overs : (r : Result (List TextLine) WorldFault)
+          → IfErr r (λ e. (count : ℕ) → e ≡ LimitPassed 10 count → (lucks : Lucks) × IsPast state images n (g lucks) (is_fault_answer (g lucks).answer) is_out old new)
+          → IfErr r (λ e. (count : ℕ) → e ≡ LimitPassed 10 count → (lucks : Lucks) × IsPast state images n (f lucks) (is_fault_answer (f lucks).answer) is_out old new)
+      overs (Ok lines) k = tt
+      overs (Err e) k = λ count over. let p = k count over in
+          (p.0, subst (λ (s : NetStep). IsPast state images n s (is_fault_answer s.answer) is_out old new) (sym (is p.0)) p.1)
+
+  -- where a disk may be asked for
+  pub comes_by : (f : Lucks → NetStep) (result : Result (List TextLine) WorldFault) (is_out : ℕ → Bool) (old new : World D)
+      → Delivers state images n f result is_out old new → ComesTo state images n f result is_out old new
+  comes_by f result is_out old new d = record { done = d.done; over = d.over; limit = d.limit; plans = d.plans; left = lefts result d.apart }
+    where
+      lefts : (r : Result (List TextLine) WorldFault) → IfErr r (λ e. e ≢ DepotFailed) → IfErr r (λ e. e ≡ DepotFailed → IsUndone state n is_out old new)
+      lefts (Ok lines) k = tt
+      lefts (Err e) k = λ depot. absurd (k depot)
+
+  pub comes_as : (f g : Lucks → NetStep) → ((lucks : Lucks) → f lucks ≡ g lucks) → (result : Result (List TextLine) WorldFault) (is_out : ℕ → Bool) (old new : World D)
+      → ComesTo state images n g result is_out old new → ComesTo state images n f result is_out old new
+  comes_as f g is result is_out old new d = record { done = dones result d.done; over = overs result d.over; limit = d.limit; plans = d.plans; left = d.left }
     where
       dones : (r : Result (List TextLine) WorldFault) → IfOk r (λ lines. (lucks : Lucks) × IsDone state images n (g lucks) (is_fault_answer (g lucks).answer) lines is_out old new)
           → IfOk r (λ lines. (lucks : Lucks) × IsDone state images n (f lucks) (is_fault_answer (f lucks).answer) lines is_out old new)
@@ -169,6 +193,7 @@ wire_brings state is_out to n old x = record {
   net = x.held;
   gates = refl;
   devices = refl;
+  askers = refl;
   network = refl;
   reached = wire_of_reached n x.reached;
   held = x.held.wire;
@@ -184,3 +209,8 @@ pub apart_left : {D : Type 0} (state : D → DiskState) (n : Net) (number : ℕ)
     → IfErr result (λ e. e ≢ DepotFailed) → Leaves state n (events.Deliver number) is_out result old new
 apart_left state n number is_out old new (Ok lines) k = tt
 apart_left state n number is_out old new (Err e) k = λ memory limit why. ⊎_elim (λ whole. absurd whole.1) (λ depot. absurd (k depot)) why
+
+pub depot_left : {D : Type 0} (state : D → DiskState) (n : Net) (number : ℕ) (is_out : ℕ → Bool) (old new : World D) (result : Result (List TextLine) WorldFault)
+    → IfErr result (λ e. e ≡ DepotFailed → IsUndone state n is_out old new) → Leaves state n (events.Deliver number) is_out result old new
+depot_left state n number is_out old new (Ok lines) k = tt
+depot_left state n number is_out old new (Err e) k = λ memory limit why. ⊎_elim (λ whole. absurd whole.1) k why

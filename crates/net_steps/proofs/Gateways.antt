@@ -6,6 +6,7 @@ use Rattle.stab_base.specs.declared.node.Node.TheVariants as nodes
 use Rattle.table_model.specs.declared.message.Message.{Message}
 use Rattle.table_model.specs.declared.message.Message.TheVariants as kinds
 use Rattle.table_model.specs.declared.message.TableSubscription.{TableSubscription}
+use Rattle.field_codec.specs.Forms.{IsOptionIf}
 use Rattle.sync_msgs.specs.Spelling.{IsClient, HasSpelling, has_schema}
 use Rattle.part_tables.specs.Parts.{Part}
 use Rattle.message_parts.specs.Parts.{part_of, message_at}
@@ -19,7 +20,7 @@ use Rattle.gate_tables.specs.Gate.{client_of, to_client, restore, from_store, ta
 use Rattle.gate_tables.specs.Gate as gate
 use Rattle.gated_tables.specs.Devices.{stamped}
 use Rattle.net_network.specs.Packets.{IsPartIf}
-use Rattle.net_network.specs.Short.{IsShort}
+use Rattle.net_network.specs.Short.{IsFramed, IsShort}
 use Rattle.net_steps.specs.Handing.{IsSentOn, GoesOn, AllGoOn, AreShortSends}
 
 -- ---- the client of a part that a client sends
@@ -88,15 +89,15 @@ module _ (ps : List PartPacket) (came : Option (ℕ × ℕ)) where
   -- ---- what a client asks
 
   answer_on : (client table kind status token : ℕ) → IsClient client → has_schema kind status ≡ false → GoesOn ps came (gate.answer client table kind status token).1
-  answer_on client table kind status token c none = (c, none, refl)
+  answer_on client table kind status token c none = (c, subst (λ (b : Bool). IsOptionIf b IsFramed None) (sym none) tt)
 
   abbrev IsPlain : Option Asked → Type 0
   IsPlain None = Unit {0}
   IsPlain (Some a) = (a.wish ≡ wishes.Pass) × IsClient a.client
 
   plain : (m : Message) → GoesOn ps came m → IsPlain (asked m)
-  plain (kinds.CreateTable m) k = absurd k
-  plain (kinds.DropTable m) k = absurd k
+  plain (kinds.CreateTable m) k = (refl, k.0)
+  plain (kinds.DropTable m) k = (refl, k)
   plain (kinds.SubscribeTable m) k = absurd k
   plain (kinds.UnsubscribeTable m) k = absurd k
   plain (kinds.ObjectFragment f) k = go f.down (own_client (kinds.ObjectFragment f) k refl)

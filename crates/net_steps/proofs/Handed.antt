@@ -149,6 +149,8 @@ module _ {D : Type 0} (state : D → DiskState) (n : Net) (gate : ℕ) (way : Wa
       short = short_join n.sent (all_from (nodes.Gate gate) d.sends) x.held.short (short_from (nodes.Gate gate) d.sends (all_short n.wire.packets way.part d.sends sends_are));
       bytes = few_more (bytes_of n.wire.packets) n.sent (all_from (nodes.Gate gate) d.sends) x.held.bytes;
       numbered = x.held.numbered;
+      askers = x.held.askers;
+      asked = x.held.asked;
     }
 
 -- ---- a message that is delivered to a gateway that is up

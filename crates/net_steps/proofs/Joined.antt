@@ -1,8 +1,7 @@
 -- A client that is declared, with a gateway or without.
-use Rattle.std.proofs.Common.{◌≡◌, ⊎_elim, ℕ, ◌≤◌, ◌<◌, Bool, true, false, List, [], ◌++◌, Option, Some, None, refl, sym, ◌∙◌, ap, subst, append-nil, arith}
+use Rattle.std.proofs.Common.{◌≡◌, ⊎_elim, ℕ, ◌≤◌, ◌<◌, Bool, true, false, List, [], Option, Some, None, refl, sym, ap, subst, append-nil, arith}
 use Rattle.std.specs.Prelude.{is_some}
 use Rattle.disk_trait.specs.Calls.{DiskState}
-use Rattle.row_value.specs.declared.schema.Schema.{Schema}
 use Rattle.row_store.specs.Spelling.{IsClient}
 use Rattle.table_model.specs.declared.event.Event.{Event}
 use Rattle.table_model.specs.declared.event.Event.TheVariants as events
@@ -11,22 +10,21 @@ use Rattle.step_tables.specs.ClientMoves.{Client}
 use Rattle.step_tables.specs.Messages.{Luck}
 use Rattle.world_laws.proofs.Looks.{look_cases}
 use Rattle.world_tables.specs.World.{World as AWorld, Lucks, joined as world_joined, open_all, new_client, first_agenda, first_luck, client_at}
-use Rattle.wire_tables.specs.Wire.{PartPacket, WireStep, wire_step}
+use Rattle.wire_tables.specs.Wire.{WireStep, wire_step}
 use Rattle.wire_tables.specs.Faults.{is_wire_fault}
 use Rattle.part_network.specs.Packets.{most_bytes}
 use Rattle.gate_host.specs.Holds.{HoldsGates}
 use Rattle.gated_tables.specs.Devices.{Device, new_device}
-use Rattle.gated_tables.specs.Faults.{is_net_fault}
-use Rattle.gated_tables.specs.Net.{Net, NetStep, Sent, net_step, carried_on, joined, joined_by, with_device}
-use Rattle.net_network.specs.Packets.{HasSent, net_bytes}
+use Rattle.gated_tables.specs.Net.{Net, NetStep, Sent, carried_on, joined, with_device}
+use Rattle.net_network.specs.Packets.{net_bytes}
 use Rattle.node_steps.specs.declared.fault.WorldFault.{WorldFault}
 use Rattle.node_steps.specs.declared.fault.WorldFault.TheVariants.{Limit as LimitPassed}
 use Rattle.node_steps.specs.Holds.{Holds as NodesHold}
-use Rattle.wire_steps.specs.Holds as holds
 use Rattle.net_steps.specs.declared.world.World.{World}
+use Rattle.net_steps.specs.Askers.{AreAsked, HoldsAskers}
 use Rattle.net_steps.specs.Devices.{HoldsDevices}
 use Rattle.net_steps.specs.Holds.{Holds}
-use Rattle.net_steps.specs.Steps.{IsMoved, IsDone, IsPast, IsStep, IsOver, all_faults}
+use Rattle.net_steps.specs.Steps.{IsMoved, IsDone, IsStep, IsOver, all_faults}
 use Rattle.net_steps.specs.Through.{IsStood, IsThrough, IsBeyond, joined_unless}
 use Rattle.net_steps.proofs.Carried.{carried_held}
 use Rattle.net_steps.proofs.Moved.{later_moved, later_linked}
@@ -38,6 +36,11 @@ joined_gates : (w : AWorld) (c : ℕ) (tables : List ℕ) (luck : Luck) (o : Opt
     → HoldsGates (world_joined w c tables luck o).stores (world_joined w c tables luck o).schemas gs gates
 joined_gates w c tables luck (Some node) gs gates h = h
 joined_gates w c tables luck None gs gates h = h
+
+-- and who asked is known still
+joined_asked : (w : AWorld) (c : ℕ) (tables : List ℕ) (luck : Luck) (o : Option Client) (askers : _) → AreAsked askers w.schemas → AreAsked askers (world_joined w c tables luck o).schemas
+joined_asked w c tables luck (Some node) askers k = k
+joined_asked w c tables luck None askers k = k
 
 -- and the client
 joined_there : (w : AWorld) (c : ℕ) (tables : List ℕ) (luck : Luck) (o : Option Client) → client_at w c ≡ o → is_some (client_at (world_joined w c tables luck o) c) ≡ true
@@ -84,6 +87,8 @@ module _ {D : Type 0} (state : D → DiskState) (images : D → ℕ → List ℕ
         (joined_gates n.wire.world c tables (first_luck k.0.calls) (client_at n.wire.world c) n.gates mid.gates
         (subst (λ (y : World D). HoldsGates n.wire.world.stores n.wire.world.schemas n.gates y.gates) (sym rest) x.held.gates))
         (subst (λ (y : World D). HoldsDevices n.devices y.devices) (sym rest) x.held.devices) x.held.numbered
+        (subst (λ (y : World D). HoldsAskers n.askers y.askers) (sym rest) x.held.askers)
+        (joined_asked n.wire.world c tables (first_luck k.0.calls) (client_at n.wire.world c) n.askers x.held.asked)
 
     there : is_some (client_at s.wire.world c) ≡ true
     there = joined_there n.wire.world c tables (first_luck k.0.calls) (client_at n.wire.world c) refl

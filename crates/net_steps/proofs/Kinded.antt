@@ -1,29 +1,38 @@
 -- Which event it is, and what comes of it.
-use Rattle.std.proofs.Common.{◌≡◌, ℕ, ◌+◌, Bool, true, List, [], ◌∷◌, ◌++◌, Result, Ok, Err, refl, sym, ap, subst}
-use Rattle.std.specs.Prelude.{IfOk}
+use Rattle.std.proofs.Common.{◌≡◌, ℕ, ◌+◌, Bool, true, false, List, [], ◌∷◌, ◌++◌, Result, Ok, Err, refl, sym, subst}
+use Rattle.std.specs.Prelude.{map, IfOk, IfErr}
 use Rattle.disk_trait.specs.Calls.{DiskState}
+use Rattle.disk_trait.specs.Image.{IsImage}
 use Rattle.stab_base.specs.declared.node.Node.TheVariants as nodes
 use Rattle.table_model.specs.declared.event.Event.{Event}
 use Rattle.table_model.specs.declared.event.Event.TheVariants as events
 use Rattle.table_model.specs.declared.line.TextLine.{TextLine}
 use Rattle.world_tables.specs.Sound.{is_declaration}
 use Rattle.world_tables.specs.Turns.{Happening}
+use Rattle.world_tables.specs.World.{no_lucks}
+use Rattle.step_tables.specs.Facts.{AnswerLine}
+use Rattle.step_tables.specs.Facts as facts
+use Rattle.step_tables.specs.Lines.{line_of}
 use Rattle.fair_laws.specs.Reached.{IsBuilt}
 use Rattle.wire_laws.specs.Runs.{AreBuilt}
-use Rattle.gated_tables.specs.Net.{Net, start}
+use Rattle.gated_tables.specs.Faults.{is_net_fault}
+use Rattle.gated_tables.specs.Net.{Net, net_step, start, still}
 use Rattle.gated_tables.specs.Runs.{net_from}
 use Rattle.gated_laws.specs.Runs.{AreDeclaredFirst, AreDeclarations, IsBefore}
 use Rattle.gated_laws.proofs.Reached.{first_next}
 use Rattle.gated_laws.proofs.KeptWires.{built_join}
 use Rattle.gated_laws.proofs.NetLaws.{nets_sound}
 use Rattle.node_steps.specs.declared.fault.WorldFault.{WorldFault}
+use Rattle.node_steps.specs.declared.fault.WorldFault.TheVariants.{Memory}
 use Rattle.net_steps.specs.declared.kinds.Kind.TheVariants as kinds
 use Rattle.net_steps.specs.declared.world.World.{World}
+use Rattle.net_steps.specs.Alone.{Promises}
 use Rattle.net_steps.specs.Calls.{Comes, Overruns, IsLimited, Leaves, IsCarriedOn}
-use Rattle.net_steps.specs.Holds.{Holds, IsAt}
+use Rattle.net_steps.specs.Holds.{IsAt}
 use Rattle.net_steps.specs.Kinds.{kind_of}
 use Rattle.net_steps.specs.Sounds.{GoesOnSound}
 use Rattle.net_steps.specs.Steps.{HavePlansBelow, may_begin}
+use Rattle.net_steps.proofs.Promised.{answers}
 
 pub delivers : (event : Event) (number : ℕ) → kind_of event ≡ kinds.Deliver number → event ≡ events.Deliver number
 delivers (events.Deliver other) number e = cc
@@ -34,6 +43,12 @@ delivers (events.WorkAll (nodes.Gate g)) number e = absurd cc
 delivers (events.Crash (nodes.Gate g) calls pick) number e = absurd cc
 delivers (events.Start (nodes.Gate g)) number e = absurd cc
 delivers (events.Start (nodes.Client d)) number e = absurd cc
+delivers (events.Create (nodes.Client d) table) number e = absurd cc
+delivers (events.Create (nodes.Store k) table) number e = absurd cc
+delivers (events.Create (nodes.Gate k) table) number e = absurd cc
+delivers (events.Drop (nodes.Client d) table) number e = absurd cc
+delivers (events.Drop (nodes.Store k) table) number e = absurd cc
+delivers (events.Drop (nodes.Gate k) table) number e = absurd cc
 delivers other number e = absurd cc
 
 pub links : (event : Event) (c : ℕ) (up : Bool) → kind_of event ≡ kinds.Link c up → event ≡ events.Link c up
@@ -45,6 +60,12 @@ links (events.WorkAll (nodes.Gate g)) c up e = absurd cc
 links (events.Crash (nodes.Gate g) calls pick) c up e = absurd cc
 links (events.Start (nodes.Gate g)) c up e = absurd cc
 links (events.Start (nodes.Client d)) c up e = absurd cc
+links (events.Create (nodes.Client d) table) c up e = absurd cc
+links (events.Create (nodes.Store k) table) c up e = absurd cc
+links (events.Create (nodes.Gate k) table) c up e = absurd cc
+links (events.Drop (nodes.Client d) table) c up e = absurd cc
+links (events.Drop (nodes.Store k) table) c up e = absurd cc
+links (events.Drop (nodes.Gate k) table) c up e = absurd cc
 links other c up e = absurd cc
 
 pub wakes : (event : Event) (c : ℕ) → kind_of event ≡ kinds.Wake c → event ≡ events.Start (nodes.Client c)
@@ -55,7 +76,75 @@ wakes (events.Work (nodes.Gate g)) c e = absurd cc
 wakes (events.WorkAll (nodes.Gate g)) c e = absurd cc
 wakes (events.Crash (nodes.Gate g) calls pick) c e = absurd cc
 wakes (events.Start (nodes.Gate g)) c e = absurd cc
+wakes (events.Create (nodes.Client d) table) c e = absurd cc
+wakes (events.Create (nodes.Store k) table) c e = absurd cc
+wakes (events.Create (nodes.Gate k) table) c e = absurd cc
+wakes (events.Drop (nodes.Client d) table) c e = absurd cc
+wakes (events.Drop (nodes.Store k) table) c e = absurd cc
+wakes (events.Drop (nodes.Gate k) table) c e = absurd cc
 wakes other c e = absurd cc
+
+pub creates : (event : Event) (c table : ℕ) → kind_of event ≡ kinds.Create c table → event ≡ events.Create (nodes.Client c) table
+creates (events.Create (nodes.Client d) t) c table e = cc
+creates (events.Create (nodes.Store k) t) c table e = absurd cc
+creates (events.Create (nodes.Gate k) t) c table e = absurd cc
+creates (events.Drop (nodes.Client k) t) c table e = absurd cc
+creates (events.Drop (nodes.Store k) t) c table e = absurd cc
+creates (events.Drop (nodes.Gate k) t) c table e = absurd cc
+creates (events.Hold (nodes.Gate g)) c table e = absurd cc
+creates (events.Free (nodes.Gate g)) c table e = absurd cc
+creates (events.Work (nodes.Gate g)) c table e = absurd cc
+creates (events.WorkAll (nodes.Gate g)) c table e = absurd cc
+creates (events.Crash (nodes.Gate g) calls pick) c table e = absurd cc
+creates (events.Start (nodes.Gate g)) c table e = absurd cc
+creates (events.Start (nodes.Client d)) c table e = absurd cc
+creates other c table e = absurd cc
+
+pub drops : (event : Event) (c table : ℕ) → kind_of event ≡ kinds.Drop c table → event ≡ events.Drop (nodes.Client c) table
+drops (events.Drop (nodes.Client d) t) c table e = cc
+drops (events.Drop (nodes.Store k) t) c table e = absurd cc
+drops (events.Drop (nodes.Gate k) t) c table e = absurd cc
+drops (events.Create (nodes.Client k) t) c table e = absurd cc
+drops (events.Create (nodes.Store k) t) c table e = absurd cc
+drops (events.Create (nodes.Gate k) t) c table e = absurd cc
+drops (events.Hold (nodes.Gate g)) c table e = absurd cc
+drops (events.Free (nodes.Gate g)) c table e = absurd cc
+drops (events.Work (nodes.Gate g)) c table e = absurd cc
+drops (events.WorkAll (nodes.Gate g)) c table e = absurd cc
+drops (events.Crash (nodes.Gate g) calls pick) c table e = absurd cc
+drops (events.Start (nodes.Gate g)) c table e = absurd cc
+drops (events.Start (nodes.Client d)) c table e = absurd cc
+drops other c table e = absurd cc
+
+-- what is asked of any other node does nothing
+pub record IsAside (n : Net) (event : Event) : Type 0 where
+  pub step : net_step n event no_lucks ≡ still n facts.Done
+  pub fault : is_net_fault n event no_lucks ≡ false
+
+pub aside : (n : Net) (event : Event) → kind_of event ≡ kinds.Aside → IsAside n event
+aside n (events.Create (nodes.Client c) table) e = absurd cc
+aside n (events.Create (nodes.Store number) table) e = record { step = refl; fault = refl }
+aside n (events.Create (nodes.Gate number) table) e = record { step = refl; fault = refl }
+aside n (events.Drop (nodes.Client c) table) e = absurd cc
+aside n (events.Drop (nodes.Store number) table) e = record { step = refl; fault = refl }
+aside n (events.Drop (nodes.Gate number) table) e = record { step = refl; fault = refl }
+aside n (events.Hold (nodes.Gate g)) e = absurd cc
+aside n (events.Free (nodes.Gate g)) e = absurd cc
+aside n (events.Work (nodes.Gate g)) e = absurd cc
+aside n (events.WorkAll (nodes.Gate g)) e = absurd cc
+aside n (events.Crash (nodes.Gate g) calls pick) e = absurd cc
+aside n (events.Start (nodes.Gate g)) e = absurd cc
+aside n (events.Start (nodes.Client d)) e = absurd cc
+aside n other e = absurd cc
+
+pub aside_promises : {D : Type 0} (state : D → DiskState) (images : D → ℕ → List ℕ → Type 0)
+    (only_now : (disk : D) (image : List ℕ) → images disk (state disk).moment image → IsImage (state disk).pending image)
+    (n : Net) (event : Event) → kind_of event ≡ kinds.Aside → (is_out : ℕ → Bool) (old : World D) → IsAt state is_out event n old
+    → (result : Result (List TextLine) WorldFault) → IfOk result (λ lines. map line_of lines ≡ AnswerLine facts.Done ∷ []) → IfErr result (λ e. e ≡ Memory)
+    → Promises state images n event is_out result old old
+aside_promises state images only_now n event kind is_out old at result told none =
+    let a : IsAside n event = aside n event kind in
+    answers state images only_now n event is_out old old at refl n facts.Done a.step a.fault refl at.held result told none
 
 -- the world makes of any other event what the wire makes of it
 pub carries_on : (n : Net) (event : Event) → kind_of event ≡ kinds.Other → IsCarriedOn n event
@@ -68,6 +157,12 @@ carries_on n (events.Deliver number) e = absurd cc
 carries_on n (events.Link c up) e = absurd cc
 carries_on n (events.Start (nodes.Client c)) e = absurd cc
 carries_on n (events.Start (nodes.Gate number)) e = absurd cc
+carries_on n (events.Create (nodes.Client c) table) e = absurd cc
+carries_on n (events.Create (nodes.Store number) table) e = absurd cc
+carries_on n (events.Create (nodes.Gate number) table) e = absurd cc
+carries_on n (events.Drop (nodes.Client c) table) e = absurd cc
+carries_on n (events.Drop (nodes.Store number) table) e = absurd cc
+carries_on n (events.Drop (nodes.Gate number) table) e = absurd cc
 carries_on n (events.Hold (nodes.Gate number)) e = absurd cc
 carries_on n (events.Free (nodes.Gate number)) e = absurd cc
 carries_on n (events.Work (nodes.Gate number)) e = absurd cc

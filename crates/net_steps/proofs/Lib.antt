@@ -24,3 +24,11 @@ pub mod Joined
 pub mod Started
 pub mod Relinked
 pub mod Kinded
+pub mod Altered
+pub mod Replied
+pub mod Stated
+pub mod Tabled
+pub mod Created
+pub mod TurnedAway
+pub mod Owed
+pub mod Requested

@@ -4,7 +4,6 @@ use Rattle.std.specs.Prelude.{IfOk, IfErr, is_some, if◌then◌else◌}
 use Rattle.std.specs.Ordering.{nat_cmp}
 use Rattle.std.specs.BTreeMap as tree
 use Rattle.disk_trait.specs.Calls.{DiskState}
-use Rattle.stab_base.specs.declared.node.Node.TheVariants as nodes
 use Rattle.table_model.specs.declared.event.Event.TheVariants as events
 use Rattle.table_model.specs.declared.line.TextLine.{TextLine}
 use Rattle.step_tables.specs.ClientMoves.{Client}
@@ -34,8 +33,9 @@ use Rattle.wire_steps.specs.Links.{link_set}
 use Rattle.wire_steps.specs.Steps as wires
 use Rattle.wire_steps.specs.declared.world.World.{World as WireWorld}
 use Rattle.net_steps.specs.declared.world.World.{World}
+use Rattle.net_steps.specs.Askers.{AreAsked}
 use Rattle.net_steps.specs.Holds.{Holds}
-use Rattle.net_steps.specs.Steps.{IsMoved, IsDone, IsPast, HavePlansBelow}
+use Rattle.net_steps.specs.Steps.{IsMoved, IsDone, IsPast}
 use Rattle.net_steps.specs.Delivering.{IsLinkedIn, IsToBring, IsBrought, IsBroughtPast, Brings, Delivers, SpendsHere, step_linked}
 
 -- ---- a link is no part of what is held of tables and clients
@@ -112,9 +112,13 @@ module _ {D : Type 0} (state : D → DiskState) where
       gates true = h.gates
       gates false = h.gates
 
+      asked : (up : Bool) → AreAsked n.askers (with_link c up n.wire.world).schemas
+      asked true = h.asked
+      asked false = h.asked
+
       go : (b : Bool) → wire_holds.Holds state (if b then n.wire else cutting c (is_online d) n.wire) wire → Holds state (if b then n else cut) (record world { wire = wire })
-      go true k = record { wire = k; gates = h.gates; devices = h.devices; sent = h.sent; short = h.short; bytes = h.bytes; numbered = h.numbered }
-      go false k = record { wire = k; gates = gates (is_online d); devices = h.devices; sent = h.sent; short = h.short; bytes = h.bytes; numbered = h.numbered }
+      go true k = record { wire = k; gates = h.gates; devices = h.devices; sent = h.sent; short = h.short; bytes = h.bytes; numbered = h.numbered; askers = h.askers; asked = h.asked }
+      go false k = record { wire = k; gates = gates (is_online d); devices = h.devices; sent = h.sent; short = h.short; bytes = h.bytes; numbered = h.numbered; askers = h.askers; asked = asked (is_online d) }
 
   module _ (images : D → ℕ → List ℕ → Type 0) where
     rows_between : (w v u x : AWorld) → ((table : ℕ) → hosted_at v table ≡ hosted_at w table) → ((table : ℕ) → hosted_at x table ≡ hosted_at u table) → (old mid next new : Nodes D)
@@ -163,6 +167,7 @@ module _ {D : Type 0} (state : D → DiskState) (images : D → ℕ → List ℕ
       net = x.here.held;
       gates = refl;
       devices = refl;
+      askers = refl;
       network = refl;
       reached = let r = reached_wire n x.here.reached in
           let k = cutting_reached n.wire c d.linked r.0 r.1 r.2 node_there.0 node_there.1 is_up in

@@ -8,9 +8,12 @@ use Rattle.message_frames.specs.Frames.{HasFrame}
 use Rattle.part_network.specs.Packets.{HasPartFrame}
 use Rattle.wire_tables.specs.Wire.{PartPacket, Wire}
 use Rattle.gated_tables.specs.Devices as tables
+use Rattle.gated_tables.specs.Net.{Net}
 use Rattle.wire_steps.specs.Holds as wires
 use Rattle.net_steps.specs.declared.world.World.{World}
+use Rattle.net_steps.specs.Askers.{HoldsAskers}
 use Rattle.net_steps.specs.Devices.{HoldsDevices}
+use Rattle.net_steps.specs.Walking.{IsAlong}
 
 abbrev pub IsOnward : {D : Type 0} → (old new : World D) → Type 0
 IsOnward old new = new ≡ record old { network = new.network }
@@ -23,6 +26,15 @@ wire_onward {D} state old new a v h = subst (wires.Holds state v) (sym (ap (λ (
 
 pub devices_onward : {D : Type 0} (old new : World D) → IsOnward old new → (devices : List (ℕ × tables.Device)) → HoldsDevices devices old.devices → HoldsDevices devices new.devices
 devices_onward {D} old new a devices h = subst (HoldsDevices devices) (sym (ap (λ (w : World D). w.devices) a)) h
+
+pub along_onward : {D : Type 0} (state : D → DiskState) (old new : World D) → IsOnward old new → (n : Net) (v : Wire) → IsAlong state n v old → IsAlong state n v new
+along_onward {D} state old new a n v h = record {
+  wire = wire_onward state old new a v h.wire;
+  devices = devices_onward old new a n.devices h.devices;
+  numbered = h.numbered;
+  askers = subst (HoldsAskers n.askers) (sym (ap (λ (w : World D). w.askers) a)) h.askers;
+  asked = h.asked;
+}
 
 -- ---- frames of the wire's packets
 

@@ -1,6 +1,6 @@
 -- A step of the wire with what it sends on its way: gone through, with more bytes than may be sent, and undone.
-use Rattle.std.proofs.Common.{◌≡◌, ℕ, ◌<◌, Bool, List, refl, sym, ◌∙◌, ap, subst}
-use Rattle.std.specs.Prelude.{map, Result, Ok, Err, IfOk, IfErr}
+use Rattle.std.proofs.Common.{◌≡◌, ℕ, Bool, List, refl, sym, ◌∙◌, ap, subst}
+use Rattle.std.specs.Prelude.{Result, Ok, Err, IfOk, IfErr}
 use Rattle.disk_trait.specs.Calls.{DiskState}
 use Rattle.table_model.specs.declared.event.Event.{Event}
 use Rattle.table_model.specs.declared.line.TextLine.{TextLine}
@@ -41,7 +41,7 @@ module _ {D : Type 0} (state : D → DiskState) (images : D → ℕ → List ℕ
     s = wire_step n.wire event k.lucks
 
     pub to_send : IsToCarry state n n.wire s lines (record old { wire = wire })
-    to_send = to_carry state n n.wire (wire_of n x.reached) refl event k.lucks s refl lines old (record old { wire = wire }) x.held k.held k.lines_are refl refl
+    to_send = to_carry state n n.wire (wire_of n x.reached) refl refl refl event k.lucks s refl lines old (record old { wire = wire }) x.held k.held k.lines_are refl refl refl
 
     module _ (new : World D) (same : new ≡ record (record old { wire = wire }) { network = new.network }) where
       wire_same : wire ≡ new.wire

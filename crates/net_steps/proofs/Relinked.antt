@@ -1,6 +1,6 @@
 -- What a client has of its gateway is another: its session, and its link that goes up or down.
-use Rattle.std.proofs.Common.{◌≡◌, ◌≢◌, ⊎_elim, ℕ, suc, ◌+◌, ◌<◌, Bool, true, false, cond, List, [], ◌∷◌, ◌++◌, map, Option, Some, None, Result, Ok, Err, refl, sym, ◌∙◌, ap, subst, arith, true≢false}
-use Rattle.std.specs.Prelude.{is_some, option_map, IfOk, IfErr, OnOk, if◌then◌else◌}
+use Rattle.std.proofs.Common.{◌≡◌, ⊎_elim, ℕ, ◌+◌, Bool, true, false, cond, List, [], ◌∷◌, ◌++◌, map, Option, Some, None, Result, Ok, Err, refl, sym, ◌∙◌, ap, subst, arith, true≢false}
+use Rattle.std.specs.Prelude.{is_some, option_map, OnOk, if◌then◌else◌}
 use Rattle.std.specs.Ordering.{nat_cmp}
 use Rattle.std.specs.BTreeMap as tree
 use Rattle.std.specs.BTreeMap.{is_at, insert_entry}
@@ -9,24 +9,18 @@ use Rattle.disk_trait.specs.Image.{IsImage}
 use Rattle.row_store.specs.Spelling.{IsClient}
 use Rattle.fair_laws.proofs.Hosting.{all_after}
 use Rattle.stab_base.specs.declared.node.Node.TheVariants as nodes
-use Rattle.step_tables.specs.ClientMoves.{Client}
 use Rattle.step_tables.specs.Facts.{AnswerLine}
 use Rattle.step_tables.specs.Facts as facts
 use Rattle.step_tables.specs.Lines.{line_of}
-use Rattle.table_model.specs.declared.event.Event.{Event}
 use Rattle.table_model.specs.declared.event.Event.TheVariants as events
 use Rattle.table_model.specs.declared.line.TextLine.{TextLine}
 use Rattle.world_laws.proofs.Looks.{look_cases}
 use Rattle.world_tables.specs.Faults.{is_fault_answer}
 use Rattle.world_tables.specs.World.{World as AWorld, Lucks, client_at, is_client_down, with_link}
-use Rattle.wire_tables.specs.Wire.{Wire, wire_step}
 use Rattle.gate_host.specs.Holds.{HoldsGates}
 use Rattle.gated_tables.specs.Devices.{Device, is_online}
-use Rattle.gated_tables.specs.Faults.{is_net_fault}
 use Rattle.gated_tables.specs.Net.{Net, NetStep, cutting, device_at, with_device, linked, relinked, restarted, refused, still, asks_session, asks_again}
-use Rattle.gated_laws.specs.Runs.{IsReached}
 use Rattle.node_steps.specs.declared.fault.WorldFault.{WorldFault}
-use Rattle.node_steps.specs.declared.fault.WorldFault.TheVariants.{Limit as LimitPassed}
 use Rattle.node_steps.specs.declared.world.World.{World as Nodes}
 use Rattle.node_steps.specs.Holds.{Holds as NodesHold}
 use Rattle.node_steps.specs.Links as node_links
@@ -39,12 +33,13 @@ use Rattle.wire_steps.proofs.Maps.{put_here, put_other}
 use Rattle.net_steps.specs.declared.device.Device as kept
 use Rattle.net_steps.specs.declared.world.World.{World}
 use Rattle.net_steps.specs.Calls.{Comes, Overruns, IsCarriedOn}
-use Rattle.net_steps.specs.Delivering.{Delivers, IsUpIn, IsLinkedIn}
+use Rattle.net_steps.specs.Delivering.{Delivers, IsLinkedIn}
 use Rattle.net_steps.specs.Carrying.{AreSent, IsOverFault}
+use Rattle.net_steps.specs.Askers.{AreAsked}
 use Rattle.net_steps.specs.Devices.{HoldsDevices, device_of}
 use Rattle.net_steps.specs.Holds.{Holds, AreShort}
 use Rattle.net_steps.specs.Steps.{IsMoved, HavePlansBelow, all_faults}
-use Rattle.net_steps.specs.Through.{IsStood, IsGated, IsThere, restarted_if}
+use Rattle.net_steps.specs.Through.{IsGated, restarted_if}
 use Rattle.net_steps.proofs.Delivered.{delivers_as}
 use Rattle.net_steps.proofs.Moved.{linked_moved}
 use Rattle.net_steps.proofs.Routed.{register_short}
@@ -113,9 +108,13 @@ module _ {D : Type 0} (state : D → DiskState) (n : Net) (c : ℕ) (d : Device)
       numbered : (q : ℕ) (e : Device) → device_at (record n { devices = insert_entry nat_cmp n.devices c d }) q ≡ Some e → IsClient q
       numbered = all_after (λ (q : ℕ) (e : Device). IsClient q) n.devices c d client h.numbered
 
+      asked : (up : Bool) → AreAsked n.askers (with_link c up n.wire.world).schemas
+      asked true = h.asked
+      asked false = h.asked
+
       go : (b : Bool) → holds.Holds state (if b then n.wire else cutting c (is_online d) n.wire) wire
           → Holds state (if b then m else record m { wire = cutting c (is_online d) n.wire }) (record old { wire = wire; devices = devices })
-      go true k = record { wire = k; gates = h.gates; devices = put; sent = h.sent; short = h.short; bytes = h.bytes; numbered = numbered }
+      go true k = record { wire = k; gates = h.gates; devices = put; sent = h.sent; short = h.short; bytes = h.bytes; numbered = numbered; askers = h.askers; asked = h.asked }
       go false k = record {
         wire = k;
         gates = linked_gates (is_online d) n.gates old.gates h.gates;
@@ -124,6 +123,8 @@ module _ {D : Type 0} (state : D → DiskState) (n : Net) (c : ℕ) (d : Device)
         short = h.short;
         bytes = h.bytes;
         numbered = numbered;
+        askers = h.askers;
+        asked = asked (is_online d);
       }
 
 -- ---- a client that was down has no session
@@ -167,6 +168,8 @@ still_down state n c old h down wire held = record {
   short = h.short;
   bytes = h.bytes;
   numbered = h.numbered;
+  askers = h.askers;
+  asked = h.asked;
 }
 
 -- ---- a link that goes up or down

@@ -1,12 +1,14 @@
--- What is sent of a step of the wire: each packet on its way, and what clients ask for that have recovered.
-use Rattle.std.proofs.Common.{◌≡◌, ℕ, ◌+◌, ◌≤◌, Bool, true, false, List, [], ◌∷◌, ◌++◌, Option, Some, None, refl, sym, ◌∙◌, ap, append-nil, arith}
-use Rattle.std.specs.Prelude.{map}
-use Rattle.std.specs.List.{flat_map}
-use Rattle.std.proofs.lemmas.List.{map-append, append_assoc}
+-- What is sent of a step of the wire: what follows each fact, and each packet on its way.
+use Rattle.std.proofs.Common.{◌≡◌, ℕ, ◌+◌, ◌≤◌, Bool, true, false, List, [], ◌∷◌, ◌++◌, Option, Some, None, refl, sym, ◌∙◌, ap, subst, append-nil, arith}
+use Rattle.std.specs.Prelude.{map, is_some}
+use Rattle.std.proofs.lemmas.List.{append_assoc}
 use Rattle.std.proofs.lemmas.List.Sums.{sum_by-append}
 use Rattle.stab_base.specs.declared.node.Node.{Node}
 use Rattle.stab_base.specs.declared.node.Node.TheVariants as nodes
+use Rattle.row_value.specs.declared.schema.Schema.{Schema}
 use Rattle.row_store.specs.Spelling.{IsClient}
+use Rattle.field_codec.specs.Forms.{IsOptionIf}
+use Rattle.world_tables.specs.World.{schema_at}
 use Rattle.table_model.specs.declared.message.Message.{Message}
 use Rattle.table_model.specs.MessageNames.{name_of}
 use Rattle.step_tables.specs.Facts.{Fact}
@@ -17,11 +19,13 @@ use Rattle.message_parts.proofs.Joined.{part_of_sent}
 use Rattle.wire_tables.specs.Wire.{PartPacket, PartOutbox, part_name}
 use Rattle.part_network.specs.Packets.{frame_length, bytes_of}
 use Rattle.gated_tables.specs.Devices.{Device, or_zero, stamped, register}
-use Rattle.gated_tables.specs.Net.{Net, Sent, NetOutbox, device_at, sent_by, sent_to, routed_to, routed_from, routed, asks_again, asks_by, asks_in, out_of}
-use Rattle.gated_laws.proofs.NetLines.{packets_by}
+use Rattle.gated_tables.specs.Net.{Net, Sent, NetOutbox, Asker, device_at, asker_at, sent_to, routed_to, routed_from, routed, asks_again, answers_to, sends_by, told_by, passed_on, outs_by, outs_of}
+use Rattle.gated_tables.specs.Net as net
+use Rattle.gated_laws.proofs.NetLines.{packets_by, sent_by}
 use Rattle.net_network.specs.Packets.{net_bytes}
-use Rattle.net_network.specs.Short.{IsShort}
+use Rattle.net_network.specs.Short.{IsFramed, IsShort}
 use Rattle.net_network.proofs.Stamped.{unstamped, stamped_length, part_of_stamped}
+use Rattle.net_steps.specs.Askers.{AreAsked}
 use Rattle.net_steps.specs.Holds.{AreShort}
 
 -- ---- one packet
@@ -37,7 +41,7 @@ to_stamped : (p : PartPacket) (o : Option Device) → IsStamped p (sent_to p o).
 to_stamped p None = plain_stamped p
 to_stamped p (Some d) = plain_stamped p
 
-by_stamped : (p : PartPacket) (c : ℕ) (o : Option Device) → IsStamped p (sent_by p c o).message
+by_stamped : (p : PartPacket) (c : ℕ) (o : Option Device) → IsStamped p (net.sent_by p c o).message
 by_stamped p c None = plain_stamped p
 by_stamped p c (Some d) = (or_zero d.token, refl)
 
@@ -75,13 +79,18 @@ routed_part n p = let s = routed_stamped n p in ap part_of s.1 ∙ (part_of_stam
 
 -- ---- all of them
 
-pub sent_is : (n : Net) (asked : List Sent) (outs : List PartOutbox)
-    → flat_map (λ (out : NetOutbox). out.sent) (map (out_of n) outs ++ record { facts = []; sent = asked } ∷ []) ≡ map (routed n) (packets_by outs) ++ asked
-sent_is n asked [] = append-nil asked
-sent_is n asked (out ∷ outs) =
-    ap (λ (l : List Sent). map (routed n) out.packets ++ l) (sent_is n asked outs)
-    ∙ (sym (append_assoc (map (routed n) out.packets) (map (routed n) (packets_by outs)) asked)
-    ∙ ap (λ (l : List Sent). l ++ asked) (sym (map-append (routed n) out.packets (packets_by outs))))
+sent_join : (xs ys : List NetOutbox) → sent_by (xs ++ ys) ≡ sent_by xs ++ sent_by ys
+sent_join [] ys = refl
+sent_join (x ∷ xs) ys = ap (λ (l : List Sent). x.sent ++ l) (sent_join xs ys) ∙ sym (append_assoc x.sent (sent_by xs) (sent_by ys))
+
+-- what follows the facts of a part of a step, and its packets
+part_is : (n : Net) (out : PartOutbox) → sent_by (outs_by n out) ≡ sent_by (map (told_by n) out.facts) ++ map (routed n) out.packets
+part_is n out = sent_join (map (told_by n) out.facts) (passed_on n out.packets ∷ [])
+    ∙ ap (λ (l : List Sent). sent_by (map (told_by n) out.facts) ++ l) (append-nil (map (routed n) out.packets))
+
+parts_are : (n : Net) (out : PartOutbox) (outs : List PartOutbox)
+    → sent_by (outs_of n (out ∷ outs)) ≡ (sent_by (map (told_by n) out.facts) ++ map (routed n) out.packets) ++ sent_by (outs_of n outs)
+parts_are n out outs = sent_join (outs_by n out) (outs_of n outs) ∙ ap (λ (l : List Sent). l ++ sent_by (outs_of n outs)) (part_is n out)
 
 -- ---- bytes
 
@@ -99,17 +108,31 @@ routed_bytes n (p ∷ ps) =
     ∙ (ap (λ (k : ℕ). bytes_of (p ∷ []) + k) (routed_bytes n ps)
     ∙ sym (sum_by-append (λ (x : PartPacket). frame_length (message_at x.part)) (p ∷ []) ps)))
 
-at_most : (a b c all net before rest : ℕ) → all ≡ a + b → a ≤ before → net ≡ before + rest → rest ≡ b + c → all ≤ net
-at_most a b c all net before rest e f g h = omega arith
+more_bytes : (all mine rest net told now later : ℕ) → all ≡ mine + rest → rest ≤ later → net ≡ (told + now) + later → now ≡ mine → all ≤ net
+more_bytes all mine rest net told now later e h f g = omega arith
+
+outs_bytes : (n : Net) (outs : List PartOutbox) → bytes_of (packets_by outs) ≤ net_bytes (sent_by (outs_of n outs))
+outs_bytes n [] = omega arith
+outs_bytes n (out ∷ outs) =
+    let told : List Sent = sent_by (map (told_by n) out.facts) in
+    let mine : List Sent = map (routed n) out.packets in
+    let later : List Sent = sent_by (outs_of n outs) in
+    more_bytes (bytes_of (out.packets ++ packets_by outs)) (bytes_of out.packets) (bytes_of (packets_by outs)) (net_bytes (sent_by (outs_of n (out ∷ outs)))) (net_bytes told) (net_bytes mine)
+    (net_bytes later)
+    (sum_by-append (λ (p : PartPacket). frame_length (message_at p.part)) out.packets (packets_by outs)) (outs_bytes n outs)
+    (ap net_bytes (parts_are n out outs) ∙ (bytes_join (told ++ mine) later ∙ ap (λ (k : ℕ). k + net_bytes later) (bytes_join told mine)))
+    (routed_bytes n out.packets)
+
+all_bytes : (all old new net sent more : ℕ) → all ≡ old + new → old ≤ sent → net ≡ sent + more → new ≤ more → all ≤ net
+all_bytes all old new net sent more e h f g = omega arith
 
 -- each packet goes as a frame that is as long
-pub bytes_carried : (n : Net) (old : List PartPacket) (sent : List Sent) (asked : List Sent) (ps : List PartPacket) → bytes_of old ≤ net_bytes sent
-    → bytes_of (old ++ ps) ≤ net_bytes (sent ++ (map (routed n) ps ++ asked))
-bytes_carried n old sent asked ps h =
-    at_most (bytes_of old) (bytes_of ps) (net_bytes asked) (bytes_of (old ++ ps)) (net_bytes (sent ++ (map (routed n) ps ++ asked))) (net_bytes sent) (net_bytes (map (routed n) ps ++ asked))
-    (sum_by-append (λ (p : PartPacket). frame_length (message_at p.part)) old ps) h
-    (bytes_join sent (map (routed n) ps ++ asked))
-    (bytes_join (map (routed n) ps) asked ∙ ap (λ (k : ℕ). k + net_bytes asked) (routed_bytes n ps))
+pub bytes_carried : (n : Net) (old : List PartPacket) (sent : List Sent) (outs : List PartOutbox) → bytes_of old ≤ net_bytes sent
+    → bytes_of (old ++ packets_by outs) ≤ net_bytes (sent ++ sent_by (outs_of n outs))
+bytes_carried n old sent outs h =
+    all_bytes (bytes_of (old ++ packets_by outs)) (bytes_of old) (bytes_of (packets_by outs)) (net_bytes (sent ++ sent_by (outs_of n outs))) (net_bytes sent) (net_bytes (sent_by (outs_of n outs)))
+    (sum_by-append (λ (p : PartPacket). frame_length (message_at p.part)) old (packets_by outs)) h
+    (bytes_join sent (sent_by (outs_of n outs))) (outs_bytes n outs)
 
 -- ---- messages that are no parts
 
@@ -132,17 +155,36 @@ again_short c (Some d) is = go d.linked
     go true = ((λ none. register_short c (is d refl)), tt)
     go false = tt
 
-pub asks_short : (n : Net) → ((c : ℕ) (d : Device) → device_at n c ≡ Some d → IsClient c) → (outs : List PartOutbox) → AreShort (asks_in n outs)
-asks_short n is [] = tt
-asks_short n is (out ∷ outs) = short_join (flat_map (asks_by n) out.facts) (asks_in n outs) (of_facts out.facts) (asks_short n is outs)
-  where
-    of_facts : (some : List Fact) → AreShort (flat_map (asks_by n) some)
-    of_facts [] = tt
-    of_facts (fact ∷ some) = short_join (asks_by n fact) (flat_map (asks_by n) some) (one fact) (of_facts some)
-      where
-        one : (f : Fact) → AreShort (asks_by n f)
-        one (facts.ClientRecovered c) = again_short c (device_at n c) (is c)
-        one other = tt
+-- who asked for a table is answered with its schema, where it is made
+framed_some : (o : Option Schema) → is_some o ≡ true → ((schema : Schema) → o ≡ Some schema → IsFramed schema) → IsOptionIf true IsFramed o
+framed_some None there framed = absurd cc
+framed_some (Some schema) there framed = framed schema refl
 
-pub carried_short : (n : Net) (sent : List Sent) (ps : List PartPacket) (asked : List Sent) → AreShort sent → AreShort asked → AreShort (sent ++ (map (routed n) ps ++ asked))
-carried_short n sent ps asked a b = short_join sent (map (routed n) ps ++ asked) a (short_join (map (routed n) ps) asked (parts_short n ps) b)
+module _ (n : Net) (asked : AreAsked n.askers n.wire.world.schemas) where
+  pub made_framed : (table : ℕ) (a : Asker) → asker_at n table ≡ Some a → IsOptionIf true IsFramed (schema_at n.wire.world table)
+  made_framed table a at = framed_some (schema_at n.wire.world table) (asked.each table a at).1 (asked.framed table)
+
+  made_short : (table : ℕ) (o : Option Asker) → asker_at n table ≡ o → AreShort (answers_to n.wire.world table 2 o)
+  made_short table None at = tt
+  made_short table (Some a) at = ((λ none. (register_short a.client (asked.each table a at).0, made_framed table a at)), tt)
+
+  unmade_short : (table : ℕ) (o : Option Asker) → asker_at n table ≡ o → AreShort (answers_to n.wire.world table 3 o)
+  unmade_short table None at = tt
+  unmade_short table (Some a) at = ((λ none. (register_short a.client (asked.each table a at).0, tt)), tt)
+
+  module _ (numbered : (c : ℕ) (d : Device) → device_at n c ≡ Some d → IsClient c) where
+    fact_short : (fact : Fact) → AreShort (sends_by n fact)
+    fact_short (facts.ClientRecovered c) = again_short c (device_at n c) (numbered c)
+    fact_short (facts.Made table) = made_short table (asker_at n table) refl
+    fact_short (facts.Unmade table) = unmade_short table (asker_at n table) refl
+    fact_short other = tt
+
+    facts_short : (some : List Fact) → AreShort (sent_by (map (told_by n) some))
+    facts_short [] = tt
+    facts_short (fact ∷ some) = short_join (sends_by n fact) (sent_by (map (told_by n) some)) (fact_short fact) (facts_short some)
+
+    pub outs_short : (outs : List PartOutbox) → AreShort (sent_by (outs_of n outs))
+    outs_short [] = tt
+    outs_short (out ∷ outs) = subst AreShort (sym (parts_are n out outs))
+        (short_join (sent_by (map (told_by n) out.facts) ++ map (routed n) out.packets) (sent_by (outs_of n outs))
+        (short_join (sent_by (map (told_by n) out.facts)) (map (routed n) out.packets) (facts_short out.facts) (parts_short n out.packets)) (outs_short outs))

@@ -1,5 +1,5 @@
 -- A message that is no part comes to a client or a Store.
-use Rattle.std.proofs.Common.{◌≡◌, ◌≢◌, ◌⊎◌, ⊎_elim, ℕ, ◌+◌, ◌≤◌, ◌==◌, ◌&&◌, Bool, true, false, List, [], ◌∷◌, ◌++◌, map, Option, Some, None, Result, Ok, Err, refl, sym, ◌∙◌, ap, subst, arith, true≢false}
+use Rattle.std.proofs.Common.{◌≡◌, ⊎_elim, ℕ, ◌≤◌, ◌==◌, ◌&&◌, Bool, true, false, List, [], ◌∷◌, ◌++◌, map, Option, Some, None, Result, Ok, Err, refl, sym, ◌∙◌, ap, subst, arith, true≢false}
 use Rattle.std.specs.Prelude.{not, IfOk, IfErr, is_some, slice_get, length, option_map, if◌then◌else◌}
 use Rattle.std.specs.List.{AllByRecursion}
 use Rattle.std.specs.Ordering.{nat_cmp}
@@ -11,6 +11,7 @@ use Rattle.row_store.specs.Spelling.{IsClient}
 use Rattle.sync_msgs.specs.Spelling as spelling
 use Rattle.stab_base.specs.declared.node.Node.{Node}
 use Rattle.stab_base.specs.declared.node.Node.TheVariants as nodes
+use Rattle.table_model.specs.declared.event.Event.TheVariants as events
 use Rattle.table_model.specs.declared.line.TextLine.{TextLine}
 use Rattle.table_model.specs.declared.message.Message.{Message}
 use Rattle.table_model.specs.declared.message.Message.TheVariants as messages
@@ -24,13 +25,14 @@ use Rattle.step_tables.specs.Members.{Among}
 use Rattle.step_tables.specs.StoreMoves.{StoreTask}
 use Rattle.step_tables.proofs.Lists.{among_none, among_cons, among_get}
 use Rattle.world_tables.specs.Faults.{is_fault_answer}
-use Rattle.world_tables.specs.World.{Lucks, Hosted, no_lucks, busy_table, client_at, client_tasks, hosted_at, is_client_down}
+use Rattle.world_tables.specs.World.{Lucks, Hosted, no_lucks, busy_live, client_at, client_tasks, hosted_at, hosted_by, is_client_down}
 use Rattle.journal_host.specs.Moves.{has_work}
 use Rattle.store_host.specs.Calls.{busy_version}
 use Rattle.message_parts.specs.Parts.{part_of}
 use Rattle.part_network.specs.Packets.{bytes_of}
 use Rattle.gated_tables.specs.Devices.{Device, is_online}
-use Rattle.gated_tables.specs.Net.{Net, NetStep, Sent, agenda_in, answered, answer_taken, asks_again, asks_session, busy_with, cutting, device_at, if_idle, lines_of, restored, restoring, sending, sent_lines, still, to_client, to_store, with_device}
+use Rattle.wire_tables.specs.Wire.{wire_step}
+use Rattle.gated_tables.specs.Net.{Net, NetStep, Sent, agenda_in, answered, answer_heard, answer_taken, asks_again, asks_session, busy_with, carried_on, cutting, device_at, if_idle, is_linked, lines_of, of_session, restored, restoring, says_gone, says_made, sending, sent_lines, still, to_client, to_create, to_drop, to_store, with_device}
 use Rattle.gated_laws.proofs.Reached.{kept_net}
 use Rattle.net_network.specs.Packets.{HasSent, net_bytes, whole_in, whole_of, unless_part}
 use Rattle.net_network.specs.Short.{IsShort}
@@ -43,7 +45,9 @@ use Rattle.net_steps.specs.declared.world.World.{World}
 use Rattle.net_steps.specs.Carrying.{AreSent, IsOverFault}
 use Rattle.net_steps.specs.Holds.{Holds, AreShort, IsShortSent}
 use Rattle.net_steps.specs.Steps.{IsMoved, IsDone, IsPast, HavePlansBelow, all_faults}
-use Rattle.net_steps.specs.Delivering.{IsUpIn, IsLinkedIn, IsComing, Delivers, response_in, restoring_in, step_begun}
+use Rattle.net_steps.specs.Delivering.{IsUpIn, IsLinkedIn, IsComing, Delivers, made_heard, response_in, told_in, step_begun}
+use Rattle.net_steps.specs.declared.tables.Told.{Told}
+use Rattle.net_steps.specs.declared.tables.Told.TheVariants as tells
 use Rattle.net_steps.proofs.Moved.{still_moved, linked_moved}
 use Rattle.net_steps.proofs.Routed.{bytes_grow, short_join, register_short}
 use Rattle.net_steps.proofs.Delivered.{memory_delivers, send_delivers, done_delivers, still_delivers}
@@ -64,11 +68,13 @@ module _ {D : Type 0} (state : D → DiskState) where
     short = short_join m.sent more h.short short;
     bytes = enough (bytes_of m.wire.packets) (net_bytes m.sent) (net_bytes (m.sent ++ more)) h.bytes (bytes_grow m.sent more);
     numbered = h.numbered;
+    askers = h.askers;
+    asked = h.asked;
   }
 
   module _ (images : D → ℕ → List ℕ → Type 0) (n m : Net) (is_out : ℕ → Bool) (old mid : World D) (h : Holds state m mid) (same : m.sent ≡ n.sent)
       (moved : IsMoved state images n false m.wire is_out old mid) (more : List Sent) where
-    moved_on : (network : Network) → IsMoved state images n false m.wire is_out old (record mid { network = network })
+    pub moved_on : (network : Network) → IsMoved state images n false m.wire is_out old (record mid { network = network })
     moved_on network = record { held = moved.held; out = moved.out; rose = moved.rose; same = moved.same; rows = moved.rows }
 
     sending_told : (before after : List TextLine) → map line_of before ≡ AnswerLine facts.Done ∷ [] → map line_of after ≡ map line_of before ++ sent_lines (length m.sent) more
@@ -78,7 +84,7 @@ module _ {D : Type 0} (state : D → DiskState) where
         ∙ (ap (λ (sent : List Sent). AnswerLine facts.Done ∷ sent_lines (length sent) more) same
         ∙ sym (ap (λ (l : List Line). AnswerLine facts.Done ∷ l) (append-nil (sent_lines (length n.sent) more)))))
 
-    sends_done : AreShort more → (network : Network) (before after : List TextLine) → map line_of before ≡ AnswerLine facts.Done ∷ []
+    pub sends_done : AreShort more → (network : Network) (before after : List TextLine) → map line_of before ≡ AnswerLine facts.Done ∷ []
         → AreSent m.wire.packets m.sent more network before after → IsDone state images n (sending m more) false after is_out old (record mid { network = network })
     sends_done short network before after first k = record {
       lines_are = sending_told before after first k.lines;
@@ -181,13 +187,36 @@ is_on true e = refl
 is_on false e = absurd (true≢false e)
 
 -- a client whose link is up or down
-pub linked_on : (n : Net) (c : ℕ) (m : OperationResponse) (d : Device) → d.linked ≡ true → (lucks : Lucks)
-    → answer_taken n c m lucks (Some d) ≡ if_idle n lucks (agenda_in (client_at n.wire.world c)) (answered n c m d)
-linked_on n c m d e lucks = ap (λ (x : Bool). if x then if_idle n lucks (agenda_in (client_at n.wire.world c)) (answered n c m d) else still n (facts.Refuses facts.Offline)) e
+pub linked_on : (n : Net) (c : ℕ) (m : OperationResponse) (o : Option Device) → is_linked n c o ≡ true → (lucks : Lucks)
+    → answer_taken n c m lucks o ≡ answer_heard n c m lucks o
+linked_on n c m o e lucks = ap (λ (x : Bool). if x then answer_heard n c m lucks o else still n (facts.Refuses facts.Offline)) e
 
-pub linked_off : (n : Net) (c : ℕ) (m : OperationResponse) (d : Device) → d.linked ≡ false → (lucks : Lucks)
-    → answer_taken n c m lucks (Some d) ≡ still n (facts.Refuses facts.Offline)
-linked_off n c m d e lucks = ap (λ (x : Bool). if x then if_idle n lucks (agenda_in (client_at n.wire.world c)) (answered n c m d) else still n (facts.Refuses facts.Offline)) e
+pub linked_off : (n : Net) (c : ℕ) (m : OperationResponse) (o : Option Device) → is_linked n c o ≡ false → (lucks : Lucks)
+    → answer_taken n c m lucks o ≡ still n (facts.Refuses facts.Offline)
+linked_off n c m o e lucks = ap (λ (x : Bool). if x then answer_heard n c m lucks o else still n (facts.Refuses facts.Offline)) e
+
+-- whether an answer says that a table is gone, or made
+abbrev gone_step : Net → ℕ → OperationResponse → Lucks → NetStep
+gone_step n c m lucks = carried_on n (wire_step n.wire (events.Drop (nodes.Client c) m.table) lucks)
+
+abbrev made_step : Net → ℕ → OperationResponse → Lucks → NetStep
+made_step n c m lucks = carried_on n (wire_step n.wire (events.Create (nodes.Client c) m.table) lucks)
+
+pub gone_heard : (n : Net) (c : ℕ) (m : OperationResponse) (o : Option Device) (b : Bool) → b ≡ says_gone m → not b ≡ false → (lucks : Lucks)
+    → answer_heard n c m lucks o ≡ gone_step n c m lucks
+gone_heard n c m o b is e lucks = ap (λ (x : Bool). if x then gone_step n c m lucks else made_heard n c m lucks o) (sym is ∙ is_on b e)
+
+pub not_gone : (n : Net) (c : ℕ) (m : OperationResponse) (o : Option Device) (b : Bool) → b ≡ says_gone m → not b ≡ true → (lucks : Lucks)
+    → answer_heard n c m lucks o ≡ made_heard n c m lucks o
+not_gone n c m o b is e lucks = ap (λ (x : Bool). if x then gone_step n c m lucks else made_heard n c m lucks o) (sym is ∙ is_off b e)
+
+pub made_is : (n : Net) (c : ℕ) (m : OperationResponse) (o : Option Device) (b : Bool) → b ≡ says_made m → not b ≡ false → (lucks : Lucks)
+    → made_heard n c m lucks o ≡ made_step n c m lucks
+made_is n c m o b is e lucks = ap (λ (x : Bool). if x then made_step n c m lucks else if_idle n lucks (agenda_in (client_at n.wire.world c)) (of_session n c m o)) (sym is ∙ is_on b e)
+
+pub not_made : (n : Net) (c : ℕ) (m : OperationResponse) (o : Option Device) (b : Bool) → b ≡ says_made m → not b ≡ true → (lucks : Lucks)
+    → made_heard n c m lucks o ≡ if_idle n lucks (agenda_in (client_at n.wire.world c)) (of_session n c m o)
+not_made n c m o b is e lucks = ap (λ (x : Bool). if x then made_step n c m lucks else if_idle n lucks (agenda_in (client_at n.wire.world c)) (of_session n c m o)) (sym is ∙ is_off b e)
 
 -- a client at work
 abbrev pub with_plan : ℕ → Lucks
@@ -225,6 +254,13 @@ whole_part one none = ap (unless_part one.message) none
 pub whole_there : (o : Option Sent) (one : Sent) → o ≡ Some one → part_of one.message ≡ None → whole_in o ≡ Some one.message
 whole_there o one at none = ap whole_in at ∙ whole_part one none
 
+-- what a Store makes of a message that is no part
+abbrev pub told_step : Net → ℕ → Sent → Lucks → Told → NetStep
+told_step n store p lucks (tells.Create m) = to_create n store p m lucks (hosted_by n.wire.world store m.table)
+told_step n store p lucks (tells.Drop m) = to_drop n store p m lucks (hosted_by n.wire.world store m.table)
+told_step n store p lucks (tells.Restore m) = restored n store p m (busy_live n.wire.world store)
+told_step n store p lucks tells.Nothing = still n facts.Done
+
 module _ (n : Net) (from to : Node) (lucks : Lucks) where
   abbrev with : Message → Sent
   with message = record { from = from; to = to; message = message }
@@ -238,20 +274,24 @@ module _ (n : Net) (from to : Node) (lucks : Lucks) where
   by_other c (messages.OperationResponse k) e = absurd (let some : Some k ≡ None = e in cc)
   by_other c other e = refl
 
-  by_restoring : (store : ℕ) (message : Message) (m : RestoreClientSubscriptions) → restoring_in (Some message) ≡ Some m
-      → to_store n store (with message) lucks None ≡ restored n store (with message) m (busy_table n.wire.world store)
-  by_restoring store (messages.RestoreClientSubscriptions k) m e =
-      let same : k ≡ m = some_is k m e in
-      ap (λ (x : RestoreClientSubscriptions). restored n store (with (messages.RestoreClientSubscriptions k)) x (busy_table n.wire.world store)) same
-  by_restoring store other m e = absurd (let none : None ≡ Some m = e in cc)
+  by_told : (store : ℕ) (message : Message) → to_store n store (with message) lucks None ≡ told_step n store (with message) lucks (told_in (Some message))
+  by_told store (messages.CreateTable m) = refl
+  by_told store (messages.DropTable m) = refl
+  by_told store (messages.RestoreClientSubscriptions m) = refl
+  by_told store other = refl
 
-  by_nothing : (store : ℕ) (message : Message) → restoring_in (Some message) ≡ None → to_store n store (with message) lucks None ≡ still n facts.Done
-  by_nothing store (messages.RestoreClientSubscriptions k) e = absurd (let some : Some k ≡ None = e in cc)
-  by_nothing store other e = refl
+-- the client of a message that a Store takes
+abbrev pub IsToldOf : Told → Type 0
+IsToldOf (tells.Create m) = spelling.IsClient m.client
+IsToldOf (tells.Drop m) = spelling.IsClient m.client
+IsToldOf (tells.Restore m) = spelling.IsClient m.client
+IsToldOf tells.Nothing = Unit {0}
 
-restoring_short : (message : Message) (m : RestoreClientSubscriptions) → restoring_in (Some message) ≡ Some m → IsShort message → spelling.IsClient m.client
-restoring_short (messages.RestoreClientSubscriptions k) m e short = let same : k ≡ m = some_is k m e in subst (λ (x : RestoreClientSubscriptions). spelling.IsClient x.client) same short.0
-restoring_short other m e short = absurd (let none : None ≡ Some m = e in cc)
+told_short : (message : Message) → IsShort message → IsToldOf (told_in (Some message))
+told_short (messages.CreateTable m) short = short.0
+told_short (messages.DropTable m) short = short
+told_short (messages.RestoreClientSubscriptions m) short = short.0
+told_short other short = tt
 
 all_among : {X : Type 0} (P : X → Type 0) (xs : List X) → AllByRecursion P xs → (x : X) → Among xs x → P x
 all_among P [] k x a = absurd (among_none x a)
@@ -273,20 +313,17 @@ module _ {D : Type 0} (state : D → DiskState) (is_out : ℕ → Bool) (number 
     found_at : found ≡ Some x.one.message
     found_at = read ∙ whole_there (slice_get x.n.sent number) x.one x.stands x.part_is
 
-    pub store_restores : (m : RestoreClientSubscriptions) → restoring_in found ≡ Some m → (lucks : Lucks)
-        → to_store x.n store x.one lucks (part_of x.one.message) ≡ restored x.n store x.one m (busy_table x.n.wire.world store)
-    store_restores m e lucks = ap (to_store x.n store x.one lucks) x.part_is ∙ by_restoring x.n x.one.from x.one.to lucks store x.one.message m (sym (ap restoring_in found_at) ∙ e)
+    pub store_told : (lucks : Lucks) → to_store x.n store x.one lucks (part_of x.one.message) ≡ told_step x.n store x.one lucks (told_in found)
+    store_told lucks = ap (to_store x.n store x.one lucks) x.part_is
+        ∙ (by_told x.n x.one.from x.one.to lucks store x.one.message ∙ ap (λ (o : Option Message). told_step x.n store x.one lucks (told_in o)) (sym found_at))
 
-    pub store_ignores : restoring_in found ≡ None → (lucks : Lucks) → to_store x.n store x.one lucks (part_of x.one.message) ≡ still x.n facts.Done
-    store_ignores e lucks = ap (to_store x.n store x.one lucks) x.part_is ∙ by_nothing x.n x.one.from x.one.to lucks store x.one.message (sym (ap restoring_in found_at) ∙ e)
-
-    pub store_client : (m : RestoreClientSubscriptions) → restoring_in found ≡ Some m → spelling.IsClient m.client
-    store_client m e = restoring_short x.one.message m (sym (ap restoring_in found_at) ∙ e)
-        (all_among IsShortSent x.n.sent x.here.held.short x.one (among_get x.n.sent number x.one x.stands) x.part_is)
+    pub store_client : IsToldOf (told_in found)
+    store_client = subst (λ (o : Option Message). IsToldOf (told_in o)) (sym found_at)
+        (told_short x.one.message (all_among IsShortSent x.n.sent x.here.held.short x.one (among_get x.n.sent number x.one x.stands) x.part_is))
 
 -- ---- a Store at work
 
-busy_same : (o : Option Hosted) → busy_version o ≡ busy_with o
+pub busy_same : (o : Option Hosted) → busy_version o ≡ busy_with o
 busy_same None = refl
 busy_same (Some hosted) = go hosted.store.agenda
   where
@@ -295,24 +332,24 @@ busy_same (Some hosted) = go hosted.store.agenda
     go (Some []) = refl
     go (Some (task ∷ tasks)) = refl
 
-pub busy_step : (n : Net) (store : ℕ) (p : Sent) (m : RestoreClientSubscriptions) (table : ℕ) → busy_table n.wire.world store ≡ Some table
-    → restored n store p m (busy_table n.wire.world store) ≡ still n (facts.Refuses (facts.Busy (busy_version (hosted_at n.wire.world table))))
+pub busy_step : (n : Net) (store : ℕ) (p : Sent) (m : RestoreClientSubscriptions) (table : ℕ) → busy_live n.wire.world store ≡ Some table
+    → restored n store p m (busy_live n.wire.world store) ≡ still n (facts.Refuses (facts.Busy (busy_version (hosted_at n.wire.world table))))
 busy_step n store p m table is =
     ap (restored n store p m) is ∙ ap (λ (with : ℕ). still n (facts.Refuses (facts.Busy with))) (sym (busy_same (hosted_at n.wire.world table)))
 
 -- the lines of its refusal
-pub busy_found : (n : Net) (store : ℕ) (found : Option (List TextLine)) → option_map (map line_of) found ≡ option_map (busy_lines n.wire.world) (busy_table n.wire.world store)
-    → (lines : List TextLine) → found ≡ Some lines → (table : ℕ) × (busy_table n.wire.world store ≡ Some table) × (map line_of lines ≡ busy_lines n.wire.world table)
-busy_found n store found told lines is = go (busy_table n.wire.world store) refl (sym (ap (option_map (map line_of)) is) ∙ told)
+pub busy_found : (n : Net) (store : ℕ) (found : Option (List TextLine)) → option_map (map line_of) found ≡ option_map (busy_lines n.wire.world) (busy_live n.wire.world store)
+    → (lines : List TextLine) → found ≡ Some lines → (table : ℕ) × (busy_live n.wire.world store ≡ Some table) × (map line_of lines ≡ busy_lines n.wire.world table)
+busy_found n store found told lines is = go (busy_live n.wire.world store) refl (sym (ap (option_map (map line_of)) is) ∙ told)
   where
-    go : (o : Option ℕ) → busy_table n.wire.world store ≡ o → Some (map line_of lines) ≡ option_map (busy_lines n.wire.world) o
-        → (table : ℕ) × (busy_table n.wire.world store ≡ Some table) × (map line_of lines ≡ busy_lines n.wire.world table)
+    go : (o : Option ℕ) → busy_live n.wire.world store ≡ o → Some (map line_of lines) ≡ option_map (busy_lines n.wire.world) o
+        → (table : ℕ) × (busy_live n.wire.world store ≡ Some table) × (map line_of lines ≡ busy_lines n.wire.world table)
     go None at e = absurd (let bad : Some (map line_of lines) ≡ None = e in cc)
     go (Some table) at e = (table, at, (let both : Some (map line_of lines) ≡ Some (busy_lines n.wire.world table) = e in cc))
 
-pub busy_none : (n : Net) (store : ℕ) (found : Option (List TextLine)) → option_map (map line_of) found ≡ option_map (busy_lines n.wire.world) (busy_table n.wire.world store)
-    → found ≡ None → busy_table n.wire.world store ≡ None
-busy_none n store found told is = go (busy_table n.wire.world store) (sym (ap (option_map (map line_of)) is) ∙ told)
+pub busy_none : (n : Net) (store : ℕ) (found : Option (List TextLine)) → option_map (map line_of) found ≡ option_map (busy_lines n.wire.world) (busy_live n.wire.world store)
+    → found ≡ None → busy_live n.wire.world store ≡ None
+busy_none n store found told is = go (busy_live n.wire.world store) (sym (ap (option_map (map line_of)) is) ∙ told)
   where
     go : (o : Option ℕ) → None ≡ option_map (busy_lines n.wire.world) o → o ≡ None
     go None e = refl
@@ -341,8 +378,8 @@ module _ {D : Type 0} (state : D → DiskState) (images : D → ℕ → List ℕ
         sends_fails state images n n is_out old old x.held refl unmoved (restoring store p m ∷ []) (λ lucks. sending n (restoring store p m ∷ [])) refl (λ k below. below) new to e only over
 
   -- or it is at work
-  pub busy_delivers : (table : ℕ) → busy_table n.wire.world store ≡ Some table → (lines : List TextLine) → map line_of lines ≡ busy_lines n.wire.world table
-      → Delivers state images n (λ lucks. restored n store p m (busy_table n.wire.world store)) (Ok lines) is_out old old
+  pub busy_delivers : (table : ℕ) → busy_live n.wire.world store ≡ Some table → (lines : List TextLine) → map line_of lines ≡ busy_lines n.wire.world table
+      → Delivers state images n (λ lucks. restored n store p m (busy_live n.wire.world store)) (Ok lines) is_out old old
   busy_delivers table at lines told =
-      still_delivers state images n only_now is_out old x.reached x.held x.out (λ lucks. restored n store p m (busy_table n.wire.world store)) no_lucks
+      still_delivers state images n only_now is_out old x.reached x.held x.out (λ lucks. restored n store p m (busy_live n.wire.world store)) no_lucks
       (facts.Refuses (facts.Busy (busy_version (hosted_at n.wire.world table)))) refl (busy_step n store p m table at) (Ok lines) told tt

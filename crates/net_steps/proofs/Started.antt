@@ -1,6 +1,6 @@
 -- A client that is started.
-use Rattle.std.proofs.Common.{◌≡◌, ℕ, ◌<◌, Bool, true, false, List, Option, Some, None, refl, sym, ◌∙◌, ap, subst, true≢false}
-use Rattle.std.specs.Prelude.{is_some, if◌then◌else◌}
+use Rattle.std.proofs.Common.{◌≡◌, ℕ, ◌<◌, Bool, true, false, List, Option, Some, None, refl, sym, ◌∙◌, ap, subst}
+use Rattle.std.specs.Prelude.{if◌then◌else◌}
 use Rattle.std.specs.Ordering.{nat_cmp}
 use Rattle.std.specs.BTreeMap.{insert_entry}
 use Rattle.disk_trait.specs.Calls.{DiskState}
@@ -16,7 +16,7 @@ use Rattle.part_network.specs.Packets.{most_bytes}
 use Rattle.gate_host.specs.Holds.{HoldsGates}
 use Rattle.gated_tables.specs.Devices.{Device, is_online}
 use Rattle.gated_tables.specs.Faults.{is_net_fault}
-use Rattle.gated_tables.specs.Net.{Net, NetStep, Sent, net_step, carried_on, cutting, device_at, with_device, restarted, client_started}
+use Rattle.gated_tables.specs.Net.{Net, NetStep, Sent, net_step, carried_on, cutting, device_at, with_device, restarted}
 use Rattle.gated_laws.specs.Runs.{IsReached}
 use Rattle.gated_laws.proofs.KeptNets.{IsKeptNet}
 use Rattle.gated_laws.proofs.KeptWires.{step_keeps}
@@ -26,11 +26,12 @@ use Rattle.node_steps.specs.declared.fault.WorldFault.{WorldFault}
 use Rattle.node_steps.specs.declared.fault.WorldFault.TheVariants.{Limit as LimitPassed}
 use Rattle.node_steps.specs.Holds.{Holds as NodesHold}
 use Rattle.net_steps.specs.declared.world.World.{World}
+use Rattle.net_steps.specs.Askers.{HoldsAskers}
 use Rattle.net_steps.specs.Devices.{HoldsDevices}
 use Rattle.net_steps.specs.Holds.{Holds}
 use Rattle.net_steps.specs.Steps.{IsMoved, IsDone, IsPast, IsStep, IsOver, IsUndone, all_faults}
 use Rattle.net_steps.specs.Through.{IsStood, IsThrough, IsBeyond, IsThere, restarted_if}
-use Rattle.net_steps.proofs.Carried.{wire_of, gates_stay, carried_held}
+use Rattle.net_steps.proofs.Carried.{asked_stay, wire_of, gates_stay, carried_held}
 use Rattle.net_steps.proofs.Moved.{later_moved, later_linked}
 
 pub device_sent : (c : ℕ) (d : Device) (n : Net) → (with_device c d n).sent ≡ n.sent
@@ -118,6 +119,7 @@ module _ {D : Type 0} (state : D → DiskState) (images : D → ℕ → List ℕ
             (gates_stay n n.wire (wire_of n x.reached) refl refl (starts c) refl k.0 mid
             (subst (λ (y : World D). HoldsGates n.wire.world.stores n.wire.world.schemas n.gates y.gates) (sym rest) x.held.gates))
             (subst (λ (y : World D). HoldsDevices n.devices y.devices) (sym rest) x.held.devices) x.held.numbered
+            (subst (λ (y : World D). HoldsAskers n.askers y.askers) (sym rest) x.held.askers) (asked_stay n n.wire (wire_of n x.reached) refl (starts c) refl k.0 x.held.asked)
 
         held : Holds state (restarted_if (is_client_down (client_at n.wire.world c)) c (carried_on n (wire_step n.wire (events.Start (nodes.Client c)) k.0)).net) new
         held = subst (λ (y : Bool). Holds state (restarted_if y c s.net) new) is (given s.net mid_held (there_behind n x.reached c k.0))

@@ -1,25 +1,22 @@
 -- What a step of the wire told and sent, with what goes by way of gateways.
-use Rattle.std.specs.Prelude.{◌≡◌, ℕ, ◌≤◌, ◌<◌, ◌++◌, false, List, map, length, Some}
+use Rattle.std.specs.Prelude.{◌≡◌, ◌⊎◌, ℕ, ◌≤◌, ◌<◌, ◌++◌, false, List, [], map, length}
 use Rattle.std.specs.List.{AllByRecursion, flat_map}
 use Rattle.disk_trait.specs.Calls.{DiskState}
-use Rattle.row_store.specs.Spelling.{IsClient}
 use Rattle.table_model.specs.declared.line.TextLine.{TextLine}
 use Rattle.step_tables.specs.Facts.{Fact, Line, FactLine}
 use Rattle.step_tables.specs.Lines.{line_of}
 use Rattle.wire_tables.specs.Wire.{Wire, WireStep, PartOutbox}
 use Rattle.wire_tables.specs.Wire as wires
 use Rattle.part_network.specs.Packets.{most_bytes, bytes_of}
-use Rattle.gated_tables.specs.Devices.{Device}
-use Rattle.gated_tables.specs.Net.{Net, Sent, lines_of, sent_lines, device_at, carried_on}
+use Rattle.gated_tables.specs.Net.{Net, Sent, lines_of, sent_lines, carried_on}
 use Rattle.gated_laws.specs.Carried.{is_sent}
 use Rattle.net_network.specs.Packets.{HasSent, net_bytes}
 use Rattle.net_network.specs.declared.network.Network.{Network}
 use Rattle.node_steps.specs.declared.fault.WorldFault.{WorldFault}
 use Rattle.node_steps.specs.declared.fault.WorldFault.TheVariants.{Limit as LimitPassed}
-use Rattle.wire_steps.specs.Holds as holds
 use Rattle.net_steps.specs.declared.world.World.{World}
-use Rattle.net_steps.specs.Devices.{HoldsDevices}
 use Rattle.net_steps.specs.Holds.{AreShort}
+use Rattle.net_steps.specs.Walking.{IsAlong, IsSameTable}
 
 -- ---- what a step of the wire told
 
@@ -36,20 +33,23 @@ pub record IsPlainStep (s : WireStep) : Type 0 where
   pub facts : AllByRecursion (λ (out : PartOutbox). ArePlain out.facts) s.outs
   pub counted : AllByRecursion IsPlainLine s.counted
 
+-- a step that tells or sends leaves each table at its Store, with its schema
+abbrev pub AreSame : Net → WireStep → Type 0
+AreSame n s = ((table : ℕ) → IsSameTable n.wire.world s.wire.world table) ⊎ (s.outs ≡ [])
+
 -- The world's wire is behind this step, which told these lines and sent its packets behind those of the net; the rest
 -- is that of the net. `v` is the wire that it began from, with a client's link as it may be.
 pub record IsToCarry {D : Type 0} (state : D → DiskState) (n : Net) (v : Wire) (s : WireStep) (lines : List TextLine)
     (world : World D) : Type 0 where
-  pub held : holds.Holds state s.wire world.wire
+  pub along : IsAlong state n s.wire world
   pub told : map line_of lines ≡ wires.lines_of v s
   pub packets : v.packets ≡ n.wire.packets
   pub grown : s.wire.packets ≡ n.wire.packets ++ flat_map (λ (out : PartOutbox). out.packets) s.outs
   pub plain : IsPlainStep s
-  pub devices : HoldsDevices n.devices world.devices
+  pub same : AreSame n s
   pub sent : HasSent world.network n.wire.packets n.sent
   pub short : AreShort n.sent
   pub bytes : bytes_of n.wire.packets ≤ net_bytes n.sent
-  pub numbered : (c : ℕ) (d : Device) → device_at n c ≡ Some d → IsClient c
 
 -- These are the lines with gateways, and what was sent is on the network.
 pub record IsCarried (n : Net) (s : WireStep) (lines : List TextLine) (network : Network) : Type 0 where

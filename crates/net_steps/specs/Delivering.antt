@@ -1,26 +1,30 @@
 -- A delivery: what is known of the message, and what each part of the way promises.
 use Rattle.std.specs.Prelude.{◌≡◌, ◌≢◌, ◌⊎◌, ℕ, suc, ◌+◌, ◌<◌, ◌==◌, ◌&&◌, Bool, true, false, List, map, Option, Some}
 use Rattle.std.specs.Prelude.{None}
-use Rattle.std.specs.Prelude.{slice_get, Result, IfOk, IfErr, if◌then◌else◌}
+use Rattle.std.specs.Prelude.{is_some, slice_get, Result, IfOk, IfErr, if◌then◌else◌}
 use Rattle.disk_trait.specs.Calls.{DiskState}
 use Rattle.stab_base.specs.declared.node.Node.{Node}
 use Rattle.stab_base.specs.declared.node.Node.TheVariants as nodes
+use Rattle.row_store.specs.Spelling.{IsClient}
+use Rattle.table_model.specs.declared.event.Event.{Event}
 use Rattle.table_model.specs.declared.event.Event.TheVariants as events
 use Rattle.table_model.specs.declared.line.TextLine.{TextLine}
 use Rattle.table_model.specs.declared.message.Message.{Message}
 use Rattle.table_model.specs.declared.message.Message.TheVariants as messages
 use Rattle.table_model.specs.declared.message.OperationResponse.{OperationResponse}
-use Rattle.table_model.specs.declared.message.RestoreClientSubscriptions.{RestoreClientSubscriptions}
+use Rattle.table_model.specs.declared.table_state.TableState.{TableState}
 use Rattle.step_tables.specs.Facts as facts
 use Rattle.step_tables.specs.Lines.{line_of}
 use Rattle.world_tables.specs.Faults.{is_fault_answer}
-use Rattle.world_tables.specs.World.{Lucks}
+use Rattle.world_tables.specs.World.{Hosted, Lucks, client_at, hosted_by, schema_at}
 use Rattle.part_network.specs.Packets.{most_bytes}
 use Rattle.wire_tables.specs.Wire.{Wire, wire_step}
+use Rattle.gate_tables.specs.declared.timer.Asked.{Asked}
 use Rattle.gated_tables.specs.Devices.{Device}
 use Rattle.gated_tables.specs.Net.{Net, NetStep, Sent, carried_on, cut_by, cutting, device_at, is_node_down, lines_of}
-use Rattle.gated_tables.specs.Net.{still, with_device}
+use Rattle.gated_tables.specs.Net.{agenda_in, if_idle, is_shut, of_session, says_made, still, with_device}
 use Rattle.gated_laws.specs.Runs.{IsReached}
+use Rattle.store_host.specs.Holds.{IsUpAt}
 use Rattle.gate_host.specs.Holds.{is_up_at}
 use Rattle.gate_host.specs.declared.gates.Gates.{Gates}
 use Rattle.net_network.specs.Packets.{IsPartIf, net_bytes}
@@ -31,9 +35,11 @@ use Rattle.wire_steps.specs.Calls.{SpendsAny, IsLimitedBy}
 use Rattle.wire_steps.specs.Holds as wire_holds
 use Rattle.wire_steps.specs.Reached as wire_runs
 use Rattle.wire_steps.specs.Steps as wires
+use Rattle.net_steps.specs.declared.tables.Told.{Told}
+use Rattle.net_steps.specs.declared.tables.Told.TheVariants as tells
 use Rattle.net_steps.specs.declared.world.World.{World}
 use Rattle.net_steps.specs.Holds.{Holds}
-use Rattle.net_steps.specs.Steps.{IsDone, IsPast, HavePlansBelow, GateSpends}
+use Rattle.net_steps.specs.Steps.{IsDone, IsPast, IsUndone, HavePlansBelow, GateSpends}
 
 -- ---- what is promised
 
@@ -52,6 +58,18 @@ pub record Delivers {D : Type 0} (state : D → DiskState) (images : D → ℕ �
   pub limit : (m : ℕ) → HavePlansBelow state m old → IsLimitedBy (SpendsHere m n) result
   pub plans : (m : ℕ) → HavePlansBelow state m old → HavePlansBelow state (3 + m) new
   pub apart : IfErr result (λ e. e ≢ DepotFailed)
+
+-- The same where a disk may be asked for: without one nothing has changed.
+pub record ComesTo {D : Type 0} (state : D → DiskState) (images : D → ℕ → List ℕ → Type 0) (n : Net)
+    (f : Lucks → NetStep) (result : Result (List TextLine) WorldFault) (is_out : ℕ → Bool) (old new : World D)
+    : Type 0 where
+  pub done : IfOk result (λ lines. (lucks : Lucks)
+      × IsDone state images n (f lucks) (is_fault_answer (f lucks).answer) lines is_out old new)
+  pub over : IfErr result (λ e. (count : ℕ) → e ≡ LimitPassed 10 count → (lucks : Lucks)
+      × IsPast state images n (f lucks) (is_fault_answer (f lucks).answer) is_out old new)
+  pub limit : (m : ℕ) → HavePlansBelow state m old → IsLimitedBy (SpendsHere m n) result
+  pub plans : (m : ℕ) → HavePlansBelow state m old → HavePlansBelow state (3 + m) new
+  pub left : IfErr result (λ e. e ≡ DepotFailed → IsUndone state n is_out old new)
 
 -- ---- what is known
 
@@ -94,6 +112,7 @@ pub record IsToBring {D : Type 0} (state : D → DiskState) (is_out : ℕ → Bo
   pub net : Holds state n first
   pub gates : world.gates ≡ first.gates
   pub devices : world.devices ≡ first.devices
+  pub askers : world.askers ≡ first.askers
   pub network : world.network ≡ first.network
   pub reached : wire_runs.IsReached v
   pub held : wire_holds.Holds state v world.wire
@@ -140,12 +159,57 @@ step_begun n c m d = if (m.status == 0) && (m.answered == 1)
 
 -- ---- which messages a node answers
 
--- a gateway's answer to a client
+-- the owner's answer to a client, or a gateway's
 abbrev pub response_in : Option Message → Option OperationResponse
 response_in (Some (messages.OperationResponse m)) = Some m
 response_in other = None
 
--- what a gateway asks of a Store
-abbrev pub restoring_in : Option Message → Option RestoreClientSubscriptions
-restoring_in (Some (messages.RestoreClientSubscriptions m)) = Some m
-restoring_in other = None
+-- what is asked of a Store
+abbrev pub told_in : Option Message → Told
+told_in (Some (messages.CreateTable m)) = tells.Create m
+told_in (Some (messages.DropTable m)) = tells.Drop m
+told_in (Some (messages.RestoreClientSubscriptions m)) = tells.Restore m
+told_in other = tells.Nothing
+
+-- ---- a table at a Store that is up
+
+-- it is there, in this state, or isn't there
+abbrev pub IsStateOf : Option TableState → Option Hosted → Type 0
+IsStateOf None None = Unit {0}
+IsStateOf None (Some hosted) = ⊥
+IsStateOf (Some state) None = ⊥
+IsStateOf (Some state) (Some hosted) =
+    (hosted.store.disk.state ≡ state) × IsUpAt hosted.store.agenda
+
+-- what is asked is for a table that isn't live, with nothing to do
+abbrev pub is_asked_shut : Net → ℕ → Option Asked → Bool
+is_asked_shut n store None = false
+is_asked_shut n store (Some a) = is_shut (hosted_by n.wire.world store a.table)
+
+-- by a client
+abbrev pub IsOfClient : Option Asked → Type 0
+IsOfClient None = Unit {0}
+IsOfClient (Some a) = IsClient a.client
+
+-- an event that has a Store make or drop a table
+abbrev pub Alters : Event → Type 0
+Alters (events.Create (nodes.Store number) table) = Unit {0}
+Alters (events.Drop (nodes.Store number) table) = Unit {0}
+Alters other = ⊥
+
+-- and one that has this client open or close one
+abbrev pub AltersAt : ℕ → Event → Type 0
+AltersAt c (events.Create (nodes.Client d) table) = d ≡ c
+AltersAt c (events.Drop (nodes.Client d) table) = d ≡ c
+AltersAt c other = ⊥
+
+-- what an answer comes to that doesn't say that a table is gone
+abbrev pub made_heard : Net → ℕ → OperationResponse → Lucks → Option Device → NetStep
+made_heard n c m lucks o =
+    if says_made m then carried_on n (wire_step n.wire (events.Create (nodes.Client c) m.table) lucks)
+    else if_idle n lucks (agenda_in (client_at n.wire.world c)) (of_session n c m o)
+
+-- the client that asks is one, and the table is declared
+pub record IsAsking (n : Net) (c t : ℕ) : Type 0 where
+  pub client : IsClient c
+  pub table : is_some (schema_at n.wire.world t) ≡ true

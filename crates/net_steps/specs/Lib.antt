@@ -1,4 +1,5 @@
 pub mod Devices
+pub mod Askers
 pub mod Holds
 pub mod Steps
 pub mod Sounds
@@ -10,3 +11,4 @@ pub mod Alone
 pub mod Through
 pub mod Walking
 pub mod Delivering
+pub mod Requesting

@@ -1,34 +1,96 @@
 -- The lines of a step of the wire, one after the other: what is told and sent for each of them with gateways.
-use Rattle.std.specs.Prelude.{◌≡◌, ℕ, ◌+◌, List, [], ◌∷◌, ◌++◌, length, map, Some, slice_get, option_to_list}
+use Rattle.std.specs.Prelude.{◌≡◌, ◌⊎◌, ℕ, ◌+◌, List, [], ◌∷◌, ◌++◌, length, map, Some, slice_get, option_to_list}
 use Rattle.std.specs.List.{AllByRecursion, flat_map}
+use Rattle.disk_trait.specs.Calls.{DiskState}
 use Rattle.row_store.specs.Spelling.{IsClient}
+use Rattle.field_codec.specs.Forms.{IsOptionIf}
+use Rattle.sync_msgs.specs.Spelling.{has_schema}
 use Rattle.table_model.specs.declared.line.TextLine.{TextLine}
-use Rattle.step_tables.specs.Facts.{Line, FactLine}
+use Rattle.step_tables.specs.Facts.{Fact, Line, FactLine}
 use Rattle.step_tables.specs.Facts as facts
 use Rattle.step_tables.specs.Lines.{line_of}
-use Rattle.wire_tables.specs.Wire.{PartPacket, part_name}
+use Rattle.world_tables.specs.World.{World as AWorld, owner_of, schema_at}
+use Rattle.wire_tables.specs.Wire.{PartPacket, Wire, part_name}
 use Rattle.gated_tables.specs.Devices.{Device}
-use Rattle.gated_tables.specs.Net.{Net, Sent, device_at, routed, asks_again, sent_lines}
+use Rattle.gated_tables.specs.Net.{Net, Sent, answers_to, asker_at, asks_again, device_at, routed, schema_with}
+use Rattle.gated_tables.specs.Net.{sends_by, sent_lines}
 use Rattle.net_network.specs.Packets.{HasSent}
+use Rattle.net_network.specs.Short.{IsFramed}
 use Rattle.net_network.specs.declared.network.Network.{Network}
+use Rattle.wire_steps.specs.Holds as wires
+use Rattle.net_steps.specs.declared.answer.Due.{Due}
+use Rattle.net_steps.specs.declared.answer.Due.TheVariants as kinds
+use Rattle.net_steps.specs.declared.world.World.{World}
+use Rattle.net_steps.specs.Askers.{AreAsked, HoldsAskers}
+use Rattle.net_steps.specs.Devices.{HoldsDevices}
 
--- a packet that a line tells is one of these, with the same parties
-abbrev pub IsThere : List PartPacket → Line → Type 0
-IsThere ps (FactLine (facts.Sent packet from to name)) =
-    (p : PartPacket) × (slice_get ps packet ≡ Some p) × (p.from ≡ from) × (p.to ≡ to) × (part_name p.part ≡ name)
-IsThere ps other = Unit {0}
+-- ---- what follows a fact
 
-abbrev pub AreThere : List PartPacket → List Line → Type 0
-AreThere ps lines = AllByRecursion (IsThere ps) lines
+abbrev pub follows : Fact → Due
+follows (facts.ClientRecovered c) = kinds.Session c
+follows (facts.Made table) = kinds.Answer table 2
+follows (facts.Unmade table) = kinds.Answer table 3
+follows other = kinds.Nothing
 
--- the packet of a line on its way
+abbrev pub sends_as : Net → Due → List Sent
+sends_as n (kinds.Session c) = asks_again c (device_at n c)
+sends_as n (kinds.Answer table kind) = answers_to n.wire.world table kind (asker_at n table)
+sends_as n kinds.Nothing = []
+
+-- ---- what is known on the way
+
+-- a wire's world keeps a table at the same Store, with the same schema
+pub record IsSameTable (w after : AWorld) (table : ℕ) : Type 0 where
+  pub owner : owner_of after table ≡ owner_of w table
+  pub schema : schema_at after table ≡ schema_at w table
+
+-- a packet that a line tells is one of these, with the same parties; a table that is made or dropped is the same
+abbrev pub IsThere : Net → Wire → Line → Type 0
+IsThere n v (FactLine (facts.Sent packet from to name)) =
+    (p : PartPacket) × (slice_get v.packets packet ≡ Some p) × (p.from ≡ from) × (p.to ≡ to) × (part_name p.part ≡ name)
+IsThere n v (FactLine (facts.Made table)) = IsSameTable n.wire.world v.world table
+IsThere n v (FactLine (facts.Unmade table)) = IsSameTable n.wire.world v.world table
+IsThere n v other = Unit {0}
+
+abbrev pub AreThere : Net → Wire → List Line → Type 0
+AreThere n v lines = AllByRecursion (IsThere n v) lines
+
+-- a table whose asker may be answered is the same, and was made or dropped
+abbrev pub IsToFollow : Net → Wire → Due → Type 0
+IsToFollow n v (kinds.Answer table kind) = IsSameTable n.wire.world v.world table × ((kind ≡ 2) ⊎ (kind ≡ 3))
+IsToFollow n v other = Unit {0}
+
+-- clients with gateways have numbers that messages can tell
+abbrev pub AreNumbered : Net → Type 0
+AreNumbered n = (c : ℕ) (d : Device) → device_at n c ≡ Some d → IsClient c
+
+-- The program has this wire, and what it has of the net's clients is the net's.
+pub record IsAlong {D : Type 0} (state : D → DiskState) (n : Net) (v : Wire) (world : World D) : Type 0 where
+  pub wire : wires.Holds state v world.wire
+  pub devices : HoldsDevices n.devices world.devices
+  pub numbered : AreNumbered n
+  pub askers : HoldsAskers n.askers world.askers
+  pub asked : AreAsked n.askers n.wire.world.schemas
+
+-- A client may be answered by a table's owner: a frame has room for the answer's schema, where it has one.
+pub record IsToAnswer {D : Type 0} (state : D → DiskState) (w : AWorld) (v : Wire) (table c kind status : ℕ)
+    (world : World D) : Type 0 where
+  pub wire : wires.Holds state v world.wire
+  pub same : IsSameTable w v.world table
+  pub client : IsClient c
+  pub framed : IsOptionIf (has_schema kind status) IsFramed (schema_with w table kind status)
+
+-- ---- what is told and sent
+
 abbrev pub sent_for : Net → List PartPacket → Line → List Sent
 sent_for n ps (FactLine (facts.Sent packet from to name)) = map (routed n) (option_to_list (slice_get ps packet))
+sent_for n ps (FactLine fact) = sends_by n fact
 sent_for n ps other = []
 
 abbrev pub told_for : Net → List PartPacket → ℕ → Line → List Line
 told_for n ps number (FactLine (facts.Sent packet from to name)) =
     sent_lines number (map (routed n) (option_to_list (slice_get ps packet)))
+told_for n ps number (FactLine fact) = FactLine fact ∷ sent_lines number (sends_by n fact)
 told_for n ps number other = other ∷ []
 
 abbrev pub sent_walk : Net → List PartPacket → List Line → List Sent
@@ -40,22 +102,6 @@ told_walk n ps number [] = []
 told_walk n ps number (line ∷ lines) =
     told_for n ps number line ++ told_walk n ps (number + length (sent_for n ps line)) lines
 
--- the clients that have recovered
-abbrev pub recovered_by : Line → List ℕ
-recovered_by (FactLine (facts.ClientRecovered c)) = c ∷ []
-recovered_by other = []
-
-abbrev pub recovered_in : List Line → List ℕ
-recovered_in lines = flat_map recovered_by lines
-
--- clients with gateways have numbers that messages can tell
-abbrev pub AreNumbered : Net → Type 0
-AreNumbered n = (c : ℕ) (d : Device) → device_at n c ≡ Some d → IsClient c
-
--- what clients ask for that have recovered
-abbrev pub asks_of : Net → List ℕ → List Sent
-asks_of n clients = flat_map (λ c. asks_again c (device_at n c)) clients
-
 -- These were sent for some lines, behind the others, and what is told for them stands behind the lines so far.
 pub record AreWalked (n : Net) (ps : List PartPacket) (gone : List Sent) (some : List Line) (network : Network)
     (before after : List TextLine) : Type 0 where
@@ -65,20 +111,11 @@ pub record AreWalked (n : Net) (ps : List PartPacket) (gone : List Sent) (some :
 -- ---- on the way
 
 -- What was sent behind `start` for the lines before these, with what is told so far; `all` are all lines.
-pub record WalksOn (n : Net) (ps : List PartPacket) (start : List Sent) (all rest : List Line) (network : Network)
+pub record WalksOn (n : Net) (v : Wire) (start : List Sent) (all rest : List Line) (network : Network)
     (before now : List TextLine) : Type 0 where
   pub gone : List Sent
-  pub sent : HasSent network ps gone
-  pub there : AreThere ps rest
-  pub gone_is : gone ++ sent_walk n ps rest ≡ start ++ sent_walk n ps all
-  pub lines : map line_of now ++ told_walk n ps (length gone) rest
-      ≡ map line_of before ++ told_walk n ps (length start) all
-
--- and for the clients before these
-pub record AsksOn (n : Net) (ps : List PartPacket) (start : List Sent) (all rest : List ℕ) (network : Network)
-    (before now : List TextLine) : Type 0 where
-  pub gone : List Sent
-  pub sent : HasSent network ps gone
-  pub gone_is : gone ++ asks_of n rest ≡ start ++ asks_of n all
-  pub lines : map line_of now ++ sent_lines (length gone) (asks_of n rest)
-      ≡ map line_of before ++ sent_lines (length start) (asks_of n all)
+  pub sent : HasSent network v.packets gone
+  pub there : AreThere n v rest
+  pub gone_is : gone ++ sent_walk n v.packets rest ≡ start ++ sent_walk n v.packets all
+  pub lines : map line_of now ++ told_walk n v.packets (length gone) rest
+      ≡ map line_of before ++ told_walk n v.packets (length start) all

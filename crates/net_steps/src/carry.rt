@@ -1,5 +1,5 @@
 //! What a step of the wire told and sent, with what goes by way of gateways.
-ghost use Rattle.std.specs.Prelude.{◌≡◌, ℕ, ◌+◌, ◌++◌, ◌∷◌, [], List, map, Some, slice_get, IfOk, IfErr, OnOk};
+ghost use Rattle.std.specs.Prelude.{◌≡◌, ℕ, ◌+◌, ◌++◌, ◌∷◌, [], List, map, false, Some, slice_get, IfOk, IfErr, OnOk};
 ghost use Rattle.disk_trait.specs.Calls.{IsCounted};
 ghost use Rattle.gated_tables.specs.Net.{Net};
 ghost use Rattle.fair_laws.specs.Reached.{IsBuilt};
@@ -13,8 +13,8 @@ ghost use Rattle.step_tables.specs.Lines.{line_of, fact_of};
 ghost use Rattle.wire_tables.specs.Wire.{Wire, WireStep, PartPacket, part_name};
 ghost use Rattle.wire_steps.specs.Holds as wires;
 ghost use Rattle.net_network.specs.Packets.{HasSent};
-ghost use Rattle.net_steps.specs.Walking.{IsThere, AreThere, AreWalked, AreNumbered, sent_walk, recovered_by};
-ghost use Rattle.net_steps.specs.Walking.{recovered_in, asks_of};
+ghost use Rattle.gated_laws.specs.Carried.{is_sent};
+ghost use Rattle.net_steps.specs.Walking.{IsAlong, IsThere, AreThere, AreWalked, AreNumbered, sent_walk};
 ghost use Rattle.message_parts.specs.Parts.{message_at};
 ghost use Rattle.gated_tables.specs.Devices.{stamped};
 ghost use Rattle.gated_tables.specs.Net.{routed};
@@ -22,13 +22,13 @@ ghost use Rattle.wire_steps.specs.Sending.{IsSendFault};
 ghost use Rattle.net_steps.specs.Carrying.{IsToCarry, IsCarried, IsOverFault, AreSent};
 ghost use Rattle.net_steps.specs.Devices.{HoldsDevices};
 
+use crate::answer::follows;
 use crate::device::Device;
 use crate::say::fault_of;
 use crate::world::World;
 use disk_trait::{Depot, Disk};
 use node_steps::{Lines, WorldFault};
 use stab_base::{ClientNo, Node, Sequence};
-use std::alloc::{AllocError, Global};
 use std::collections::BTreeMap;
 use table_model::{Event, Fact, MessageName, TextLine};
 
@@ -66,29 +66,6 @@ fn route_of(devices: &BTreeMap<ClientNo, Device>, from: Node, to: Node) -> Route
         }
     }
     Route { from, to, token: 0 }
-}
-
-fn note_recovered(line: &TextLine, clients: &mut Vec<ClientNo>) -> Result<(), AllocError>
-    ensures { OnOk result (clients.new.items ≡ clients.old.items ++ recovered_by (line_of line.now)) }
-{
-    match line {
-        TextLine::Fact(Fact::ClientRecovered { client }) => {
-            clients.push(*client)?;
-            Ok(())
-        }
-        _ => Ok(()),
-    }
-}
-
-// The clients of which some lines tell that they have recovered.
-fn recovered_in(alloc: Global, lines: &[TextLine]) -> Result<Vec<ClientNo>, AllocError>
-    ensures { IfOk result (λ clients. clients.items ≡ recovered_in (map line_of lines.now)) }
-{
-    let mut clients = Vec::new(alloc);
-    for line in lines {
-        note_recovered(line, &mut clients)?;
-    }
-    Ok(clients)
 }
 
 impl<D: Disk + Drop> World<D> {
@@ -132,15 +109,32 @@ impl<D: Disk + Drop> World<D> {
         Ok(())
     }
 
+    // A fact that isn't that a packet was sent, and what follows it.
+    fn tell_fact(&mut self, fact: Fact, told: &mut Lines) -> Result<(), WorldFault>
+        requires plain { is_sent (fact_of fact) ≡ false }
+        requires along { (n : Net) × (v : Wire) × IsAlong D.state n v self.old × IsThere n v (FactLine (fact_of fact)) }
+        ensures walked { (n : Net) (v : Wire) (sent : List Sent) → IsAlong D.state n v self.old
+            → HasSent self.old.network v.packets sent → IsThere n v (FactLine (fact_of fact)) → OnOk result
+            (AreWalked n v.packets sent (FactLine (fact_of fact) ∷ []) self.new.network told.old told.new) }
+        ensures over { (n : Net) (v : Wire) (sent : List Sent) → IsAlong D.state n v self.old
+            → HasSent self.old.network v.packets sent → IsThere n v (FactLine (fact_of fact))
+            → IfErr result (IsOverFault (sent ++ sent_walk n v.packets (FactLine (fact_of fact) ∷ []))) }
+        ensures only { IfErr result IsSendFault }
+        ensures same { self.new ≡ record self.old { network = self.new.network } }
+    {
+        let next = follows(&fact);
+        told.push(TextLine::Fact(fact))?;
+        self.follow(next, told)
+    }
+
     // A fact of the wire: what it tells that was sent goes on its way.
     fn carry_fact(&mut self, fact: Fact, told: &mut Lines) -> Result<(), WorldFault>
-        ensures walked { (n : Net) (v : Wire) (sent : List Sent) → wires.Holds D.state v self.old.wire
-            → HoldsDevices n.devices self.old.devices → HasSent self.old.network v.packets sent
-            → IsThere v.packets (FactLine (fact_of fact)) → OnOk result
+        requires along { (n : Net) × (v : Wire) × IsAlong D.state n v self.old × IsThere n v (FactLine (fact_of fact)) }
+        ensures walked { (n : Net) (v : Wire) (sent : List Sent) → IsAlong D.state n v self.old
+            → HasSent self.old.network v.packets sent → IsThere n v (FactLine (fact_of fact)) → OnOk result
             (AreWalked n v.packets sent (FactLine (fact_of fact) ∷ []) self.new.network told.old told.new) }
-        ensures over { (n : Net) (v : Wire) (sent : List Sent) → wires.Holds D.state v self.old.wire
-            → HoldsDevices n.devices self.old.devices → HasSent self.old.network v.packets sent
-            → IsThere v.packets (FactLine (fact_of fact))
+        ensures over { (n : Net) (v : Wire) (sent : List Sent) → IsAlong D.state n v self.old
+            → HasSent self.old.network v.packets sent → IsThere n v (FactLine (fact_of fact))
             → IfErr result (IsOverFault (sent ++ sent_walk n v.packets (FactLine (fact_of fact) ∷ []))) }
         ensures only { IfErr result IsSendFault }
         ensures same { self.new ≡ record self.old { network = self.new.network } }
@@ -152,21 +146,17 @@ impl<D: Disk + Drop> World<D> {
                 to,
                 name,
             } => self.carry_sent(packet, from, to, name, told),
-            other => {
-                told.push(TextLine::Fact(other))?;
-                Ok(())
-            }
+            other => self.tell_fact(other, told),
         }
     }
 
     fn carry_line(&mut self, line: TextLine, told: &mut Lines) -> Result<(), WorldFault>
-        ensures walked { (n : Net) (v : Wire) (sent : List Sent) → wires.Holds D.state v self.old.wire
-            → HoldsDevices n.devices self.old.devices → HasSent self.old.network v.packets sent
-            → IsThere v.packets (line_of line)
-            → OnOk result (AreWalked n v.packets sent (line_of line ∷ []) self.new.network told.old told.new) }
-        ensures over { (n : Net) (v : Wire) (sent : List Sent) → wires.Holds D.state v self.old.wire
-            → HoldsDevices n.devices self.old.devices → HasSent self.old.network v.packets sent
-            → IsThere v.packets (line_of line)
+        requires along { (n : Net) × (v : Wire) × IsAlong D.state n v self.old × IsThere n v (line_of line) }
+        ensures walked { (n : Net) (v : Wire) (sent : List Sent) → IsAlong D.state n v self.old
+            → HasSent self.old.network v.packets sent → IsThere n v (line_of line) → OnOk result
+            (AreWalked n v.packets sent (line_of line ∷ []) self.new.network told.old told.new) }
+        ensures over { (n : Net) (v : Wire) (sent : List Sent) → IsAlong D.state n v self.old
+            → HasSent self.old.network v.packets sent → IsThere n v (line_of line)
             → IfErr result (IsOverFault (sent ++ sent_walk n v.packets (line_of line ∷ []))) }
         ensures only { IfErr result IsSendFault }
         ensures same { self.new ≡ record self.old { network = self.new.network } }
@@ -181,13 +171,12 @@ impl<D: Disk + Drop> World<D> {
     }
 
     fn carry_lines(&mut self, lines: Lines, told: &mut Lines) -> Result<(), WorldFault>
-        ensures walked { (n : Net) (v : Wire) (sent : List Sent) → wires.Holds D.state v self.old.wire
-            → HoldsDevices n.devices self.old.devices → HasSent self.old.network v.packets sent
-            → AreThere v.packets (map line_of lines)
-            → OnOk result (AreWalked n v.packets sent (map line_of lines) self.new.network told.old told.new) }
-        ensures over { (n : Net) (v : Wire) (sent : List Sent) → wires.Holds D.state v self.old.wire
-            → HoldsDevices n.devices self.old.devices → HasSent self.old.network v.packets sent
-            → AreThere v.packets (map line_of lines)
+        requires along { (n : Net) × (v : Wire) × IsAlong D.state n v self.old × AreThere n v (map line_of lines) }
+        ensures walked { (n : Net) (v : Wire) (sent : List Sent) → IsAlong D.state n v self.old
+            → HasSent self.old.network v.packets sent → AreThere n v (map line_of lines) → OnOk result
+            (AreWalked n v.packets sent (map line_of lines) self.new.network told.old told.new) }
+        ensures over { (n : Net) (v : Wire) (sent : List Sent) → IsAlong D.state n v self.old
+            → HasSent self.old.network v.packets sent → AreThere n v (map line_of lines)
             → IfErr result (IsOverFault (sent ++ sent_walk n v.packets (map line_of lines))) }
         ensures only { IfErr result IsSendFault }
         ensures same { self.new ≡ record self.old { network = self.new.network } }
@@ -198,8 +187,8 @@ impl<D: Disk + Drop> World<D> {
         Ok(())
     }
 
-    // What a client asks for that has recovered: one that has a gateway and its link up.
-    fn ask_again(&mut self, client: ClientNo, told: &mut Lines) -> Result<(), WorldFault>
+    /// What a client asks for that has recovered: one that has a gateway and its link up.
+    pub(crate) fn ask_again(&mut self, client: ClientNo, told: &mut Lines) -> Result<(), WorldFault>
         requires numbered { (n : Net) × HoldsDevices n.devices self.old.devices × AreNumbered n }
         ensures sent { (n : Net) (ps : List PartPacket) (sent : List Sent) → HoldsDevices n.devices self.old.devices
             → HasSent self.old.network ps sent → OnOk result (AreSent ps sent (asks_again client (device_at n client))
@@ -216,24 +205,8 @@ impl<D: Disk + Drop> World<D> {
         }
     }
 
-    fn ask_all(&mut self, clients: Vec<ClientNo>, told: &mut Lines) -> Result<(), WorldFault>
-        requires numbered { (n : Net) × HoldsDevices n.devices self.old.devices × AreNumbered n }
-        ensures sent { (n : Net) (ps : List PartPacket) (sent : List Sent) → HoldsDevices n.devices self.old.devices
-            → HasSent self.old.network ps sent → OnOk result (AreSent ps sent (asks_of n clients.items)
-            self.new.network told.old told.new) }
-        ensures over { (n : Net) (ps : List PartPacket) (sent : List Sent) → HoldsDevices n.devices self.old.devices
-            → HasSent self.old.network ps sent → IfErr result (IsOverFault (sent ++ asks_of n clients.items)) }
-        ensures only { IfErr result IsSendFault }
-        ensures same { self.new ≡ record self.old { network = self.new.network } }
-    {
-        for client in clients {
-            self.ask_again(client, told)?;
-        }
-        Ok(())
-    }
-
-    /// The lines of a step of the wire, and what it sent, on their way; a client with its link up that has recovered
-    /// asks for a session behind all of it.
+    /// The lines of a step of the wire, and what it sent, on their way; what follows a fact is sent right behind its
+    /// line.
     pub(crate) fn carry(&mut self, lines: Lines) -> Result<Lines, WorldFault>
         requires { (n : Net) × (v : Wire) × (s : WireStep) × IsToCarry D.state n v s lines self.old }
         ensures done { (n : Net) (v : Wire) (s : WireStep) → IsToCarry D.state n v s lines self.old
@@ -243,10 +216,8 @@ impl<D: Disk + Drop> World<D> {
         ensures only { IfErr result IsSendFault }
         ensures same { self.new ≡ record self.old { network = self.new.network } }
     {
-        let recovered = recovered_in(self.alloc, lines.as_slice())?;
         let mut told = Sequence::new(self.alloc);
         self.carry_lines(lines, &mut told)?;
-        self.ask_all(recovered, &mut told)?;
         Ok(told)
     }
 

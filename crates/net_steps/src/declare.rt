@@ -4,7 +4,7 @@ ghost use Rattle.disk_trait.specs.Calls.{IsCounted};
 ghost use Rattle.gated_tables.specs.Net.{Net};
 ghost use Rattle.fair_laws.specs.Reached.{IsBuilt};
 ghost use Rattle.node_steps.specs.declared.fault.WorldFault.TheVariants.{Depot as DepotFailed};
-ghost use Rattle.net_steps.specs.Holds.{IsAt};
+ghost use Rattle.net_steps.specs.Holds.{IsAt, IsFramedEvent};
 ghost use Rattle.net_steps.specs.Calls.{Comes, Overruns, IsLimited, Leaves};
 ghost use Rattle.net_steps.specs.Steps.{HavePlansBelow, may_begin};
 ghost use Rattle.net_steps.specs.declared.kinds.Kind.TheVariants as kinds;
@@ -44,6 +44,7 @@ impl<D: Disk + Drop> World<D> {
         event: &Event,
     ) -> Result<Lines, WorldFault>
         requires built { IsBuilt event.now }
+        requires framed { IsFramedEvent event.now }
         requires kind { kind_of event.now ≡ kinds.Declare }
         requires held { (n : Net) × IsAt D.state (P.state depot.old).is_out event.now n self.old }
         ensures done { (n : Net) → IsAt D.state (P.state depot.old).is_out event.now n self.old

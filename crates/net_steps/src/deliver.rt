@@ -1,33 +1,41 @@
 //! Deliveries. A part that comes to a client or to a Store is that of a packet of the wire; other messages are between
 //! gateways and the others.
-ghost use Rattle.std.specs.Prelude.{◌≡◌, ℕ, ◌+◌, Some, false, slice_get, option_map};
+ghost use Rattle.std.specs.Prelude.{◌≡◌, ℕ, ◌+◌, List, Some, false, slice_get, option_map, IfOk};
 ghost use Rattle.disk_trait.specs.Calls.{IsCounted};
 ghost use Rattle.stab_base.specs.declared.node.Node.{Node as ANode};
 ghost use Rattle.stab_base.specs.declared.node.Node.TheVariants as nodes;
 ghost use Rattle.table_model.specs.declared.event.Event.TheVariants as events;
 ghost use Rattle.message_parts.specs.Parts.{part_of};
 ghost use Rattle.wire_tables.specs.Wire.{Wire};
-ghost use Rattle.gated_tables.specs.Net.{Net, device_at, is_node_down, net_step, to_client, to_store};
-ghost use Rattle.net_network.specs.Packets.{IsWayAt};
+ghost use Rattle.gate_tables.specs.Gate as gate;
+ghost use Rattle.gated_tables.specs.Net.{Net, Sent as AMessage, device_at, is_node_down, net_step, to_client, to_store};
+ghost use Rattle.net_network.specs.Packets.{IsWayAt, IsWayOf};
 ghost use Rattle.node_steps.specs.declared.fault.WorldFault.TheVariants.{Depot as DepotFailed};
 ghost use Rattle.net_steps.specs.Devices.{device_of};
 ghost use Rattle.net_steps.specs.Holds.{Holds, IsAt};
 ghost use Rattle.net_steps.specs.Calls.{Comes, Overruns, IsLimited, Leaves};
 ghost use Rattle.net_steps.specs.Steps.{HavePlansBelow, may_begin};
 ghost use Rattle.net_steps.specs.Delivering.{IsToBring, Brings, IsLinkedIn, IsComing, IsGateUp};
-ghost use Rattle.net_steps.specs.Delivering.{Delivers, step_linked};
+ghost use Rattle.net_steps.specs.Delivering.{ComesTo, Delivers, step_linked};
+ghost use Rattle.net_steps.specs.Handing.{HasGone};
 
 use crate::device::Device;
 use crate::world::World;
 use disk_trait::{Depot, Disk};
+use gate_tables::{Asked, asked_of};
 use net_network::Way;
 use node_steps::{Lines, WorldFault};
 use stab_base::{ClientNo, Node, StoreNo};
+use std::alloc::AllocError;
 use table_model::{Answer, Event, Refusal};
 
 impl<D: Disk + Drop> World<D> {
-    // The part of a packet comes to the node that it goes to.
-    fn bring<P: Depot<Disk = D>>(&mut self, depot: &mut P, packet: u64) -> Result<Lines, WorldFault>
+    /// The part of a packet comes to the node that it goes to.
+    pub(crate) fn bring<P: Depot<Disk = D>>(
+        &mut self,
+        depot: &mut P,
+        packet: u64,
+    ) -> Result<Lines, WorldFault>
         requires here { (n : Net) × (v : Wire) × IsToBring D.state (P.state depot.old).is_out n v self.old }
         ensures brings { (n : Net) (v : Wire) → IsToBring D.state (P.state depot.old).is_out n v self.old
             → Brings D.state D.images n v packet result (P.state depot.new).is_out self.old self.new }
@@ -94,16 +102,28 @@ impl<D: Disk + Drop> World<D> {
     ) -> Result<Lines, WorldFault>
         requires coming { IsComing D.state (P.state depot.old).is_out number way.from (nodes.Client client) way.part
             self.old }
-        ensures delivers { (x : IsComing D.state (P.state depot.old).is_out number way.from (nodes.Client client)
+        ensures comes { (x : IsComing D.state (P.state depot.old).is_out number way.from (nodes.Client client)
             way.part
-            self.old) → Delivers D.state D.images x.n
+            self.old) → ComesTo D.state D.images x.n
             (λ lucks. to_client x.n client x.one lucks (part_of x.one.message)) result
             (P.state depot.new).is_out self.old self.new }
         ensures depot { IsCounted DepotFailed (P.state depot.old).faults (P.state depot.new).faults result }
     {
         match way.part {
             Some(part) => self.bring_client(depot, client, part),
-            None => self.tell_client(number, client),
+            None => self.tell_client(depot, number, client),
+        }
+    }
+
+    // What the message of a part asks of its table's owner.
+    fn asked(&self, number: u64, way: Way) -> Result<Option<Asked>, AllocError>
+        ensures { (v : Wire) (sent : List AMessage) (one : AMessage) → HasGone D.state v sent self.now
+            → slice_get sent number ≡ Some one → IsWayOf v.packets way one
+            → IfOk result (λ found. found ≡ gate.asked one.message) }
+    {
+        match self.message(number, way)? {
+            Some(message) => Ok(asked_of(&message)),
+            None => Ok(None),
         }
     }
 
@@ -116,15 +136,19 @@ impl<D: Disk + Drop> World<D> {
     ) -> Result<Lines, WorldFault>
         requires coming { IsComing D.state (P.state depot.old).is_out number way.from (nodes.Store store) way.part
             self.old }
-        ensures delivers { (x : IsComing D.state (P.state depot.old).is_out number way.from (nodes.Store store) way.part
-            self.old) → Delivers D.state D.images x.n
+        requires to { way.to ≡ nodes.Store store }
+        ensures comes { (x : IsComing D.state (P.state depot.old).is_out number way.from (nodes.Store store) way.part
+            self.old) → ComesTo D.state D.images x.n
             (λ lucks. to_store x.n store x.one lucks (part_of x.one.message)) result
             (P.state depot.new).is_out self.old self.new }
         ensures depot { IsCounted DepotFailed (P.state depot.old).faults (P.state depot.new).faults result }
     {
         match way.part {
-            Some(part) => self.bring(depot, part.0),
-            None => self.tell_store(number, way.from, store),
+            Some(part) => {
+                let asked = self.asked(number, way)?;
+                self.take_part(depot, store, way.from, part, asked)
+            }
+            None => self.tell_store(depot, number, way.from, store),
         }
     }
 
@@ -151,8 +175,8 @@ impl<D: Disk + Drop> World<D> {
         requires up { (n : Net) → Holds D.state n self.old → is_node_down n way.to ≡ false }
         requires gate { IsGateUp self.old.gates way.to }
         requires held { (n : Net) × IsAt D.state (P.state depot.old).is_out (events.Deliver number) n self.old }
-        ensures delivers { (n : Net) → IsAt D.state (P.state depot.old).is_out (events.Deliver number) n self.old
-            → Delivers D.state D.images n (net_step n (events.Deliver number)) result (P.state depot.new).is_out
+        ensures comes { (n : Net) → IsAt D.state (P.state depot.old).is_out (events.Deliver number) n self.old
+            → ComesTo D.state D.images n (net_step n (events.Deliver number)) result (P.state depot.new).is_out
             self.old self.new }
         ensures depot { IsCounted DepotFailed (P.state depot.old).faults (P.state depot.new).faults result }
     {
@@ -173,8 +197,8 @@ impl<D: Disk + Drop> World<D> {
         requires way { (n : Net) → Holds D.state n self.old
             → IsWayAt n.wire.packets (Some way) (slice_get n.sent number) }
         requires held { (n : Net) × IsAt D.state (P.state depot.old).is_out (events.Deliver number) n self.old }
-        ensures delivers { (n : Net) → IsAt D.state (P.state depot.old).is_out (events.Deliver number) n self.old
-            → Delivers D.state D.images n (net_step n (events.Deliver number)) result (P.state depot.new).is_out
+        ensures comes { (n : Net) → IsAt D.state (P.state depot.old).is_out (events.Deliver number) n self.old
+            → ComesTo D.state D.images n (net_step n (events.Deliver number)) result (P.state depot.new).is_out
             self.old self.new }
         ensures depot { IsCounted DepotFailed (P.state depot.old).faults (P.state depot.new).faults result }
     {

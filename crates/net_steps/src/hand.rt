@@ -32,8 +32,8 @@ use std::alloc::AllocError;
 use table_model::{Answer, Fact, Message, TextLine};
 
 impl<D: Disk + Drop> World<D> {
-    // The message of a number, that of the wire's packet with its token where it is a part.
-    fn message(&self, number: u64, way: Way) -> Result<Option<Message>, AllocError>
+    /// The message of a number, that of the wire's packet with its token where it is a part.
+    pub(crate) fn message(&self, number: u64, way: Way) -> Result<Option<Message>, AllocError>
         ensures { (v : Wire) (sent : List AMessage) (one : AMessage) → HasGone D.state v sent self.now
             → slice_get sent number ≡ Some one → IsWayOf v.packets way one
             → IfOk result (λ found. found ≡ Some one.message) }

@@ -2,7 +2,7 @@
 ghost use Rattle.std.specs.Prelude.{◌≡◌};
 ghost use Rattle.net_steps.specs.Kinds.{kind_of};
 
-use stab_base::{ClientNo, GateNo, Node};
+use stab_base::{ClientNo, GateNo, Node, TableNo};
 use table_model::Event;
 
 /// What is done to a gateway.
@@ -26,6 +26,12 @@ pub(crate) enum Kind {
     Link(ClientNo, bool),
     /// A client is started.
     Wake(ClientNo),
+    /// A client asks for a table to be made.
+    Create(ClientNo, TableNo),
+    /// A client asks for a table to be dropped.
+    Drop(ClientNo, TableNo),
+    /// What is asked of a node that asks for nothing.
+    Aside,
     Gate(GateNo, Deed),
     /// Any other event.
     Other,
@@ -44,6 +50,15 @@ pub(crate) fn kind_of(event: &Event) -> Kind
         Event::Start {
             node: Node::Client(client),
         } => Kind::Wake(*client),
+        Event::Create {
+            node: Node::Client(client),
+            table,
+        } => Kind::Create(*client, *table),
+        Event::Drop {
+            node: Node::Client(client),
+            table,
+        } => Kind::Drop(*client, *table),
+        Event::Create { .. } | Event::Drop { .. } => Kind::Aside,
         Event::Hold {
             node: Node::Gate(gate),
         }

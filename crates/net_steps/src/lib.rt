@@ -2,6 +2,9 @@
 //! was sent. Each event is a step of the world that the definitions have.
 #![tactic(auto)]
 
+mod answer;
+mod asker;
+mod asking;
 mod carry;
 mod close;
 mod declare;
@@ -16,6 +19,7 @@ mod reading;
 mod restore;
 mod say;
 mod session;
+mod tables;
 mod through;
 mod world;
 

@@ -2,25 +2,15 @@
 ghost use Rattle.std.specs.Prelude.{◌≡◌, ℕ, Bool, None, [], ◌∷◌};
 ghost use Rattle.sync_msgs.specs.Spelling.{IsClient};
 ghost use Rattle.stab_base.specs.declared.node.Node.TheVariants as nodes;
-ghost use Rattle.message_parts.specs.Parts.{part_of};
-ghost use Rattle.world_tables.specs.World.{busy_table};
-ghost use Rattle.gated_tables.specs.Net.{Net, Sent, restored, restoring, sending, to_store};
-ghost use Rattle.net_steps.specs.Delivering.{Delivers, IsComing, IsUpIn, restoring_in};
+ghost use Rattle.world_tables.specs.World.{busy_live};
+ghost use Rattle.gated_tables.specs.Net.{Net, Sent, restored, restoring, sending};
+ghost use Rattle.net_steps.specs.Delivering.{Delivers, IsUpIn};
 
 use crate::world::World;
 use disk_trait::Disk;
 use node_steps::{Lines, WorldFault};
 use stab_base::{Node, Sequence, StoreNo};
 use table_model::{Answer, Message, RestoreClientSubscriptions};
-
-fn restoring_in(message: Option<Message>) -> Option<RestoreClientSubscriptions>
-    ensures { result ≡ restoring_in message }
-{
-    match message {
-        Some(Message::RestoreClientSubscriptions(asked)) => Some(asked),
-        _ => None,
-    }
-}
 
 impl<D: Disk + Drop> World<D> {
     // A Store that isn't at work sends its answer.
@@ -66,7 +56,8 @@ impl<D: Disk + Drop> World<D> {
         self.send_restored(store, from, asked)
     }
 
-    fn restore(
+    /// A Store whose live tables have nothing to do answers.
+    pub(crate) fn restore(
         &mut self,
         store: StoreNo,
         from: Node,
@@ -76,31 +67,12 @@ impl<D: Disk + Drop> World<D> {
         requires client { IsClient asked.client }
         ensures { (is_out : ℕ → Bool) (n : Net) (p : Sent) → IsUpIn D.state is_out (nodes.Store store) n self.old
             → p.from ≡ from → Delivers D.state D.images n
-            (λ lucks. restored n store p asked (busy_table n.wire.world store)) result is_out self.old self.new }
+            (λ lucks. restored n store p asked (busy_live n.wire.world store)) result is_out self.old self.new }
     {
-        let found = self.wire.refuse_busy(store)?;
+        let found = self.wire.refuse_busy_live(store)?;
         match found {
             Some(lines) => Ok(lines),
             None => self.restore_idle(store, from, asked),
-        }
-    }
-
-    /// A message that is no part comes to a Store.
-    pub(crate) fn tell_store(
-        &mut self,
-        number: u64,
-        from: Node,
-        store: StoreNo,
-    ) -> Result<Lines, WorldFault>
-        requires coming { (is_out : ℕ → Bool) × IsComing D.state is_out number from (nodes.Store store) None self.old }
-        ensures { (is_out : ℕ → Bool) (x : IsComing D.state is_out number from (nodes.Store store) None self.old)
-            → Delivers D.state D.images x.n
-            (λ lucks. to_store x.n store x.one lucks (part_of x.one.message)) result is_out self.old self.new }
-    {
-        let found = self.network.read(self.alloc, number)?;
-        match restoring_in(found) {
-            Some(asked) => self.restore(store, from, asked),
-            None => self.only(Answer::Done),
         }
     }
 }

@@ -10,29 +10,31 @@ ghost use Rattle.gated_laws.specs.Runs.{AreDeclaredFirst, AreDeclarations};
 ghost use Rattle.fair_laws.specs.Reached.{IsBuilt};
 ghost use Rattle.node_steps.specs.declared.fault.WorldFault.TheVariants.{Depot as DepotFailed};
 ghost use Rattle.node_steps.specs.Holds.{AreOut};
-ghost use Rattle.net_steps.specs.Holds.{Holds, IsAt};
+ghost use Rattle.net_steps.specs.Holds.{Holds, IsAt, IsFramedEvent};
 ghost use Rattle.net_steps.specs.Sounds.{GoesOnSound};
 ghost use Rattle.net_steps.specs.Calls.{Comes, Overruns, IsLimited, Leaves};
 ghost use Rattle.net_steps.specs.Steps.{HavePlansBelow, may_begin};
 
+use crate::asker::Asker;
 use crate::device::Device;
 use crate::kinds::{Kind, kind_of};
 use disk_trait::{Depot, Disk};
 use gate_host::Gates;
 use net_network::Network;
 use node_steps::{Lines, WorldFault};
-use stab_base::ClientNo;
+use stab_base::{ClientNo, TableNo};
 use std::alloc::Global;
 use std::collections::BTreeMap;
-use table_model::Event;
+use table_model::{Answer, Event};
 
-/// The declared tables and clients on their disks, the gateways, what clients have of their gateways, and every message
-/// that was ever sent.
+/// The declared tables and clients on their disks, the gateways, what clients have of their gateways, who asked last
+/// for a table to be made or dropped, and every message that was ever sent.
 #[derive(Drop)]
 pub struct World<D: Disk> {
     pub(crate) wire: wire_steps::World<D>,
     pub(crate) gates: Gates,
     pub(crate) devices: BTreeMap<ClientNo, Device>,
+    pub(crate) askers: BTreeMap<TableNo, Asker>,
     pub(crate) network: Network,
     pub(crate) alloc: Global,
 }
@@ -47,15 +49,16 @@ impl<D: Disk + Drop> World<D> {
             wire: wire_steps::World::new(alloc),
             gates: Gates::new(alloc),
             devices: BTreeMap::new(alloc),
+            askers: BTreeMap::new(alloc),
             network: Network::new(alloc),
             alloc,
         }
     }
 
-    /// Carries out an event: the lines that it writes. Declarations come before all other events. Disks come from the
-    /// depot: of table T those of the numbers 3(T-1), 3(T-1)+1 and 3(T-1)+2, for its chunks, its rows and its log; of
-    /// client C those of the numbers 192+3(C-1), 192+3(C-1)+1 and 192+3(C-1)+2, for its journal, its slots and its
-    /// chunks.
+    /// Carries out an event: the lines that it writes. Declarations come before all other events, and a table's schema
+    /// has a spelling that a frame has room for, with 128 bytes more. Disks come from the depot: of table T those of
+    /// the numbers 3(T-1), 3(T-1)+1 and 3(T-1)+2, for its chunks, its rows and its log; of client C those of the
+    /// numbers 192+3(C-1), 192+3(C-1)+1 and 192+3(C-1)+2, for its journal, its slots and its chunks.
     ///
     /// `Limit` 10 where the frames of all messages would have more bytes than may be sent: the nodes are behind the
     /// event then. `Limit` 11 where a client has made its last write or has begun its last plan, a table has given its
@@ -69,6 +72,7 @@ impl<D: Disk + Drop> World<D> {
         event: &Event,
     ) -> Result<Lines, WorldFault>
         requires built { IsBuilt event.now }
+        requires framed { IsFramedEvent event.now }
         requires held { (n : Net) × IsAt D.state (P.state depot.old).is_out event.now n self.old }
         ensures done { (n : Net) → IsAt D.state (P.state depot.old).is_out event.now n self.old
             → Comes D.state D.images n event.now (P.state depot.new).is_out result self.old self.new }
@@ -92,6 +96,9 @@ impl<D: Disk + Drop> World<D> {
             Kind::Deliver(number) => self.deliver(depot, number),
             Kind::Link(client, up) => self.link(depot, client, up),
             Kind::Wake(client) => self.wake(depot, client),
+            Kind::Create(client, table) => self.ask_create(client, table),
+            Kind::Drop(client, table) => self.ask_drop(client, table),
+            Kind::Aside => self.only(Answer::Done),
             Kind::Gate(gate, deed) => self.do_to_gate(depot, event, gate, deed),
             Kind::Other => self.carry_out(depot, event),
         }

@@ -12,6 +12,7 @@ use Rattle.world_laws.proofs.Counts.{items_few, last_begun, seen_begun}
 use Rattle.world_laws.proofs.PairCounts.{pairs_few, begun_few}
 use Rattle.client_events.specs.Resolves.{IsLastWithin}
 use Rattle.journal_host.specs.Calls.{IsLast}
+use Rattle.stab_base.specs.declared.node.Node.{Node}
 use Rattle.stab_base.specs.declared.node.Node.TheVariants as nodes
 use Rattle.wire_tables.specs.Wire.{Wire}
 use Rattle.wire_laws.specs.Runs.{AreBuilt, IsRunOf}
@@ -24,7 +25,7 @@ use Rattle.gated_laws.specs.Runs.{AreDeclaredFirst, IsRunOfWires}
 use Rattle.gated_laws.proofs.NetRuns.{run_of_wires}
 use Rattle.net_laws.specs.Few.{HasDrawnFew}
 use Rattle.net_laws.proofs.Few.{gates_few}
-use Rattle.node_steps.specs.Steps.{IsFull, SpendsNumber, SpendsWithin}
+use Rattle.node_steps.specs.Steps.{IsFull, SpendsNumber, SpendsWithin, SpendsAt}
 use Rattle.wire_steps.specs.Steps as wires
 use Rattle.net_steps.specs.Steps.{Spends, GateSpends, HasDrawnAll, may_begin}
 use Rattle.simba_top.specs.declared.run.TheConstants.{MOST_LINES}
@@ -66,6 +67,11 @@ module _ (run : List Happening) (few : length run ≤ most) (plans : ℕ) (begun
   version_left : IsFull (world_from world.start run) → ⊥
   version_left full = let items = items_few run full.table full.hosted full.at in let is = full.full in omega (arith, items, is, few)
 
+  none_at : (node : Node) → SpendsAt (suc (suc plans)) (world_from world.start run) node → ⊥
+  none_at (nodes.Client client) spent = number_left client spent
+  none_at (nodes.Store store) spent = spent
+  none_at (nodes.Gate gate) spent = spent
+
   none_spent : (event : Event) → wires.Spends plans (world_from world.start run) event → ⊥
   none_spent (events.Write client table row content) spent = number_left client spent
   none_spent (events.Edit client table row edit) spent = number_left client spent
@@ -78,6 +84,8 @@ module _ (run : List Happening) (few : length run ≤ most) (plans : ℕ) (begun
   none_spent (events.EndCr client table) spent = number_left client spent
   none_spent (events.Resolve client table row seen choice) spent = number_left client spent
   none_spent (events.ResolveAll client table by) spent = numbers_left client table spent
+  none_spent (events.Create node table) spent = none_at node spent
+  none_spent (events.Drop node table) spent = none_at node spent
   none_spent (events.Deliver packet) spent =
       ⊎_elim version_left (λ (number : (c : ℕ) × SpendsNumber (suc (suc plans)) (world_from world.start run) c). number_left number.0 number.1) spent
   none_spent other spent = spent

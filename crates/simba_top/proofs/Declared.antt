@@ -17,7 +17,7 @@ spelled_early : (names : Names) (words : List (List ℕ)) (event : Event) → Sp
 spelled_early names words (events.Store store) s is = s.2
 spelled_early names words (events.Gate gate) s is = s.2
 spelled_early names words (events.Table table schema) s is = s.5
-spelled_early names words (events.Draft table schema) s is = absurd s
+spelled_early names words (events.Draft table schema) s is = s.5
 spelled_early names words (events.Client client gate tables) s is = s.5
 spelled_early names words other s is = absurd cc
 

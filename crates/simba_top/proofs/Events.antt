@@ -1,5 +1,5 @@
 -- What a line spells is built: its table is one that devices can have, and its client one of those that there are.
-use Rattle.std.proofs.Common.{◌≡◌, ℕ, ◌+◌, ◌*◌, ◌<◌, ◌≤◌, true, List, [], ◌∷◌, ◌++◌, length, refl, inl, inr, length-append, arith}
+use Rattle.std.proofs.Common.{◌≡◌, ℕ, ◌+◌, ◌*◌, ◌<◌, ◌≤◌, true, List, [], ◌∷◌, ◌++◌, codes, length, refl, inl, inr, length-append, arith}
 use Rattle.std.specs.Prelude.{◌≢◌}
 use Rattle.std.specs.List.{AllByRecursion, list_all, flat_map}
 use Rattle.std.specs.Int.{w32, to_be_bytes}
@@ -15,10 +15,12 @@ use Rattle.vault.specs.Limit.{payload_most}
 use Rattle.table_model.specs.declared.event.Event.{Event}
 use Rattle.table_model.specs.declared.event.Event.TheVariants as events
 use Rattle.fair_laws.specs.Reached.{IsMade, IsBuilt}
+use Rattle.net_network.specs.Short.{frame_room}
+use Rattle.net_steps.specs.Holds.{IsFramedEvent}
 use Rattle.script_words.specs.Words.{is_name, is_name_byte}
 use Rattle.script_words.proofs.WordLemmas.{both}
 use Rattle.script_text.specs.Names.{Names}
-use Rattle.script_text.specs.Grammar.{IsChunk, AreColumns, SpellsTable, SpelledBy, Spells}
+use Rattle.script_text.specs.Grammar.{IsChunk, AreColumns, SpellsNewTable, SpelledBy, Spells}
 
 -- ---- names
 
@@ -85,8 +87,8 @@ module _ (schema : Schema) (named : is_name schema.name ≡ true) (chunk : IsChu
   }
 
   -- a name, 32 columns and some numbers
-  payload_short : length (schema_spelling schema) + 128 ≤ payload_most
-  payload_short =
+  spelling_short : length (schema_spelling schema) ≤ 2285
+  spelling_short =
       let name = name_is schema.name named in
       let each = columns_short schema.columns columns.names in
       let listed = to_be_bytes w32 (length schema.columns) ++ flat_map column_spelling schema.columns in
@@ -98,8 +100,14 @@ module _ (schema : Schema) (named : is_name schema.name ≡ true) (chunk : IsChu
       let e = length-append (to_be_bytes w32 (length schema.columns)) (flat_map column_spelling schema.columns) in
       omega (arith, name.0, each, columns.few, b, c, d, e)
 
-table_made : (names : Names) (words : List (List ℕ)) (table : ℕ) (schema : Schema) → SpellsTable names words table schema → IsMade table schema
-table_made names words table schema s = record {
+  payload_short : length (schema_spelling schema) + 128 ≤ payload_most
+  payload_short = omega (arith, spelling_short)
+
+  frame_short : length (schema_spelling schema) + 128 ≤ frame_room
+  frame_short = omega (arith, spelling_short)
+
+table_made : (verb : List ℕ) (names : Names) (words : List (List ℕ)) (table : ℕ) (schema : Schema) → SpellsNewTable verb names words table schema → IsMade table schema
+table_made verb names words table schema s = record {
   least = s.1.0;
   most = s.1.1;
   size = sized schema.chunk s.2;
@@ -108,12 +116,19 @@ table_made names words table schema s = record {
 }
 
 spelled_built : (names : Names) (words : List (List ℕ)) (event : Event) → SpelledBy names words event → IsBuilt event
-spelled_built names words (events.Table table schema) s = table_made names words table schema s
+spelled_built names words (events.Table table schema) s = table_made (codes "table") names words table schema s
+spelled_built names words (events.Draft table schema) s = table_made (codes "draft") names words table schema s
 spelled_built names words (events.Client client gate tables) s = record { least = s.1.0; most = s.1.1 }
-spelled_built names words (events.Draft table schema) s = absurd s
-spelled_built names words (events.Create node table) s = absurd s
-spelled_built names words (events.Drop node table) s = absurd s
 spelled_built names words other s = tt
+
+-- and a frame has room for its schema
+spelled_framed : (names : Names) (words : List (List ℕ)) (event : Event) → SpelledBy names words event → IsFramedEvent event
+spelled_framed names words (events.Table table schema) s = frame_short schema s.4 s.2 s.3
+spelled_framed names words (events.Draft table schema) s = frame_short schema s.4 s.2 s.3
+spelled_framed names words other s = tt
 
 pub built : (names : Names) (line : List ℕ) (event : Event) → Spells names line event → IsBuilt event
 built names line event s = spelled_built names _ event s.2
+
+pub framed : (names : Names) (line : List ℕ) (event : Event) → Spells names line event → IsFramedEvent event
+framed names line event s = spelled_framed names _ event s.2

@@ -10,6 +10,7 @@ ghost use Rattle.transcript_text.specs.Text.{text_of, stop_text};
 ghost use Rattle.world_tables.specs.Sound.{is_declaration};
 ghost use Rattle.world_tables.specs.Turns.{Happening};
 ghost use Rattle.world_tables.specs.World.{World as AWorld};
+ghost use Rattle.net_steps.specs.Holds.{IsFramedEvent};
 ghost use Rattle.fair_laws.specs.Reached.{IsBuilt, IsReached as IsReachedWorld};
 ghost use Rattle.gated_tables.specs.Net.{start};
 ghost use Rattle.gated_tables.specs.Runs.{net_from};
@@ -329,6 +330,7 @@ impl<D: Disk + Drop> Run<D> {
         requires ready { IsReady self.old }
         requires few { self.old.count < MOST_LINES }
         requires built { IsBuilt event.now }
+        requires framed { IsFramedEvent event.now }
         requires early { is_declaration event.now ≡ true → self.old.names.started ≡ false }
         requires held { IsUnderway D.state (P.state depot.old).is_out self.old }
         ensures held { OnOk result (IsUnderway D.state (P.state depot.new).is_out self.new) }

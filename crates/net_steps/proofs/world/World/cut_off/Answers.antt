@@ -1,4 +1,4 @@
-use Rattle.std.proofs.Common.{true, sym, ◌∙◌, subst}
+use Rattle.std.proofs.Common.{sym, ◌∙◌, subst}
 use Rattle.node_steps.specs.Holds.{Holds as NodesHold}
 use Rattle.net_steps.specs.Through.{restarted_if}
 use Rattle.net_steps.proofs.Relinked.{some_of, has_device, lacks_device, cut_down, uncut, still_down}

@@ -1,4 +1,4 @@
-use Rattle.std.proofs.Common.{◌≡◌, ◌+◌, Err, refl, sym, ap}
+use Rattle.std.proofs.Common.{◌+◌, Err, ap}
 use Rattle.std.proofs.lemmas.Result.{err_from_is_err_and}
 use Rattle.net_steps.proofs.Passing.{stands_at, plans_too}
 use Rattle.net_steps.proofs.Declaring.{declare_done, declare_over, declare_limited}
@@ -43,7 +43,7 @@ returns-clause-done g c n at =
     let before = (g.P.Depot.state c.args.depot.now).is_out in
     let x = stands_at g.D.Disk.state before c.args.event.now n c.args.self.now at in
     declare_done g.D.Disk.state g.D.Disk.images n c.args.event.now c.requires.kind before (g.P.Depot.state c.go_through.new.depot).is_out c.args.self.now c.go_through.new.self x
-    c.in_ok-lines.ensures.rest c.tell_gates.new.self c.in_ok-tell_gates.ensures.rest c.in_ok-tell_gates.ensures.told c.in_ok-lines.lines (c.in_ok-lines.ensures.done n x)
+    c.requires.built c.requires.framed c.in_ok-lines.ensures.rest c.tell_gates.new.self c.in_ok-tell_gates.ensures.rest c.in_ok-tell_gates.ensures.told c.in_ok-lines.lines (c.in_ok-lines.ensures.done n x)
 
 pub returns-in_err-tell_gates-clause-plans : goal.returns-in_err-tell_gates-clause-plans
 returns-in_err-tell_gates-clause-plans g c n m at below =

@@ -2,27 +2,27 @@ use Rattle.std.proofs.Common.{refl}
 use Rattle.table_model.specs.declared.event.Event.TheVariants as events
 use Rattle.gated_laws.proofs.Reached.{before_reached}
 use Rattle.net_steps.proofs.Brought.{counted_apart}
-use Rattle.net_steps.proofs.Delivered.{absent_delivers, memory_apart, apart_left}
+use Rattle.net_steps.proofs.Delivered.{absent_delivers, memory_apart, apart_left, depot_left}
 use Rattle.net_steps.proofs.world.World.deliver.Goals as goal
 
 pub deliver_by-requires-clause-way : goal.deliver_by-requires-clause-way
 deliver_by-requires-clause-way g c n h = c.in-Some.ensures.way n.wire.packets n.sent h.sent
 
 pub returns-clause-done : goal.returns-clause-done
-returns-clause-done g c n at = (c.deliver_by.ensures.delivers n at).done
+returns-clause-done g c n at = (c.deliver_by.ensures.comes n at).done
 
 pub returns-clause-over : goal.returns-clause-over
-returns-clause-over g c n at = (c.deliver_by.ensures.delivers n at).over
+returns-clause-over g c n at = (c.deliver_by.ensures.comes n at).over
 
 pub returns-clause-limit : goal.returns-clause-limit
-returns-clause-limit g c n m at below = (c.deliver_by.ensures.delivers n at).limit m below
+returns-clause-limit g c n m at below = (c.deliver_by.ensures.comes n at).limit m below
 
 pub returns-clause-plans : goal.returns-clause-plans
-returns-clause-plans g c n m at below = (c.deliver_by.ensures.delivers n at).plans m below
+returns-clause-plans g c n m at below = (c.deliver_by.ensures.comes n at).plans m below
 
 pub returns-clause-left : goal.returns-clause-left
 returns-clause-left g c n at =
-    apart_left g.D.Disk.state n c.args.number (g.P.Depot.state c.deliver_by.new.depot).is_out c.args.self.now c.deliver_by.new.self c.deliver_by.result (c.deliver_by.ensures.delivers n at).apart
+    depot_left g.D.Disk.state n c.args.number (g.P.Depot.state c.deliver_by.new.depot).is_out c.args.self.now c.deliver_by.new.self c.deliver_by.result (c.deliver_by.ensures.comes n at).left
 
 pub returns-in_default-clause-done : goal.returns-in_default-clause-done
 returns-in_default-clause-done g c n at =

@@ -1,4 +1,4 @@
-use Rattle.std.proofs.Common.{true, Some, None, sym}
+use Rattle.std.proofs.Common.{Some, None, sym}
 use Rattle.net_steps.specs.Devices.{device_of}
 use Rattle.net_steps.proofs.Relinked.{forgotten, not_forgotten, ok_as}
 use Rattle.net_steps.proofs.world.World.forget_session.Goals as goal

@@ -1,7 +1,6 @@
-use Rattle.std.proofs.Common.{Bool, ℕ, false, Option, Some, None, sym, subst}
+use Rattle.std.proofs.Common.{Bool, ℕ, Option, None, sym, subst}
 use Rattle.std.specs.Prelude.{OnOk}
 use Rattle.net_steps.specs.Holds.{Holds}
-use Rattle.gated_tables.specs.Net.{with_device}
 use Rattle.net_steps.specs.Through.{joined_unless}
 use Rattle.net_steps.proofs.Relinked.{ok_as}
 use Rattle.net_steps.proofs.Joined.{joined_new}

@@ -1,4 +1,4 @@
-use Rattle.std.proofs.Common.{◌≡◌, ◌⊎◌, ◌+◌, refl, sym, ap}
+use Rattle.std.proofs.Common.{◌≡◌, ◌⊎◌, ◌+◌, ap}
 use Rattle.std.proofs.lemmas.Result.{err_from_is_err_and}
 use Rattle.node_steps.specs.declared.fault.WorldFault.TheVariants.{Depot as DepotFailed}
 use Rattle.wire_steps.specs.Steps.{IsWhole, Spends}

@@ -1,7 +1,6 @@
-use Rattle.std.proofs.Common.{◌+◌, Err, None, refl, sym}
+use Rattle.std.proofs.Common.{◌+◌}
 use Rattle.std.proofs.lemmas.Result.{err_from_is_err_and}
 use Rattle.table_model.specs.declared.event.Event.TheVariants as events
-use Rattle.net_steps.specs.Steps.{may_begin}
 use Rattle.net_steps.proofs.Passing.{stands_at}
 use Rattle.net_steps.proofs.Joined.{join_done, join_over, joined_as, joined_over}
 use Rattle.net_steps.proofs.world.World.join_by.Goals as goal

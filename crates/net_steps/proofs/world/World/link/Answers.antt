@@ -1,4 +1,4 @@
-use Rattle.std.proofs.Common.{◌≡◌, ◌⊎◌, Some, None, refl, sym}
+use Rattle.std.proofs.Common.{◌≡◌, ◌⊎◌, Some, refl, sym}
 use Rattle.table_model.specs.declared.event.Event.TheVariants as events
 use Rattle.node_steps.specs.declared.fault.WorldFault.TheVariants.{Depot as DepotFailed}
 use Rattle.wire_steps.specs.Steps.{IsWhole}

@@ -1,6 +1,5 @@
-use Rattle.std.proofs.Common.{◌∙◌, false, Some, refl}
+use Rattle.std.proofs.Common.{false, refl}
 use Rattle.std.proofs.lemmas.Result.{err_from_is_err_and}
-use Rattle.step_tables.specs.Facts as facts
 use Rattle.gated_tables.specs.Net.{relinked}
 use Rattle.net_steps.specs.Devices.{device_of}
 use Rattle.net_steps.proofs.Delivered.{memory_delivers, all_send}

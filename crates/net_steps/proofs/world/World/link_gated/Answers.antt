@@ -1,4 +1,4 @@
-use Rattle.std.proofs.Common.{◌∙◌, true, false, Some, refl, sym}
+use Rattle.std.proofs.Common.{◌∙◌, Some, refl, sym}
 use Rattle.step_tables.specs.Facts as facts
 use Rattle.stab_base.specs.declared.node.Node.TheVariants as nodes
 use Rattle.world_tables.specs.World.{no_lucks}

@@ -1,8 +1,8 @@
-use Rattle.std.proofs.Common.{◌∙◌, true, Ok, Some, inl, refl, sym, ap}
+use Rattle.std.proofs.Common.{◌∙◌, true, Ok, refl, ap}
 use Rattle.std.proofs.lemmas.Result.{err_from_is_err_and}
 use Rattle.step_tables.specs.Facts as facts
 use Rattle.world_tables.specs.World.{no_lucks}
-use Rattle.gated_tables.specs.Net.{relinked, with_device, asks_again}
+use Rattle.gated_tables.specs.Net.{relinked}
 use Rattle.net_steps.specs.Devices.{device_of}
 use Rattle.net_steps.proofs.Delivered.{memory_delivers, still_delivers}
 use Rattle.net_steps.proofs.Sessions.{is_there, is_client}

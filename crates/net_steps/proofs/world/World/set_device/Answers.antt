@@ -1,4 +1,4 @@
-use Rattle.std.proofs.Common.{Bool, Some, subst}
+use Rattle.std.proofs.Common.{Bool, subst}
 use Rattle.node_steps.specs.Holds.{Holds as NodesHold}
 use Rattle.node_steps.specs.Links as node_links
 use Rattle.wire_steps.specs.Holds as holds

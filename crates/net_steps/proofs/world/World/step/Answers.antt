@@ -1,7 +1,9 @@
 use Rattle.std.proofs.Common.{sym}
 use Rattle.stab_base.specs.declared.node.Node.TheVariants as nodes
 use Rattle.table_model.specs.declared.event.Event.TheVariants as events
-use Rattle.net_steps.proofs.Kinded.{delivers, links, wakes, carries_on, before_of, goes_on_sound, at_as, comes_as, overruns_as, limited_as, plans_as, leaves_as}
+use Rattle.net_steps.proofs.Deeded.{promised_as}
+use Rattle.net_steps.proofs.Kinded.{delivers, links, wakes, creates, drops, carries_on, aside_promises, before_of, goes_on_sound, at_as, comes_as, overruns_as, limited_as, plans_as, leaves_as}
+use Rattle.net_steps.proofs.Promised.{memory_apart, counted_alone}
 use Rattle.net_steps.proofs.world.World.step.Goals as goal
 
 pub carry_out-requires-clause-held : goal.carry_out-requires-clause-held
@@ -140,3 +142,134 @@ returns-in-Other-clause-over g c n at = c.carry_out.ensures.over n at (carries_o
 
 pub returns-in-Other-clause-limit : goal.returns-in-Other-clause-limit
 returns-in-Other-clause-limit g c n m at below = c.carry_out.ensures.limit n m at (carries_on n c.args.event.now (sym c.in-Other.ensures)) below
+
+pub ask_create-requires : goal.ask_create-requires
+ask_create-requires g c =
+    let k = c.requires.held in
+    let is_out = (g.P.Depot.state c.args.depot.now).is_out in
+    record { held = (is_out, k.0, at_as g.D.Disk.state g.D.Disk.images c.args.event.now (events.Create (nodes.Client c.in-Create.client) c.in-Create.table) (creates c.args.event.now c.in-Create.client c.in-Create.table (sym c.in-Create.ensures)) k.0 is_out c.args.self.now k.1) }
+
+pub returns-in-Create-clause-done : goal.returns-in-Create-clause-done
+returns-in-Create-clause-done g c n at =
+    let is_out = (g.P.Depot.state c.args.depot.now).is_out in
+    (promised_as g.D.Disk.state g.D.Disk.images n c.args.event.now (events.Create (nodes.Client c.in-Create.client) c.in-Create.table)
+    (creates c.args.event.now c.in-Create.client c.in-Create.table (sym c.in-Create.ensures)) is_out c.ask_create.result c.args.self.now c.ask_create.new.self
+    (c.ask_create.ensures.promises is_out n) at).done
+
+pub returns-in-Create-clause-over : goal.returns-in-Create-clause-over
+returns-in-Create-clause-over g c n at =
+    let is_out = (g.P.Depot.state c.args.depot.now).is_out in
+    (promised_as g.D.Disk.state g.D.Disk.images n c.args.event.now (events.Create (nodes.Client c.in-Create.client) c.in-Create.table)
+    (creates c.args.event.now c.in-Create.client c.in-Create.table (sym c.in-Create.ensures)) is_out c.ask_create.result c.args.self.now c.ask_create.new.self
+    (c.ask_create.ensures.promises is_out n) at).over
+
+pub returns-in-Create-clause-left : goal.returns-in-Create-clause-left
+returns-in-Create-clause-left g c n at =
+    let is_out = (g.P.Depot.state c.args.depot.now).is_out in
+    (promised_as g.D.Disk.state g.D.Disk.images n c.args.event.now (events.Create (nodes.Client c.in-Create.client) c.in-Create.table)
+    (creates c.args.event.now c.in-Create.client c.in-Create.table (sym c.in-Create.ensures)) is_out c.ask_create.result c.args.self.now c.ask_create.new.self
+    (c.ask_create.ensures.promises is_out n) at).left
+
+pub returns-in-Create-clause-limit : goal.returns-in-Create-clause-limit
+returns-in-Create-clause-limit g c n m at below =
+    let is_out = (g.P.Depot.state c.args.depot.now).is_out in
+    (promised_as g.D.Disk.state g.D.Disk.images n c.args.event.now (events.Create (nodes.Client c.in-Create.client) c.in-Create.table)
+    (creates c.args.event.now c.in-Create.client c.in-Create.table (sym c.in-Create.ensures)) is_out c.ask_create.result c.args.self.now c.ask_create.new.self
+    (c.ask_create.ensures.promises is_out n) at).limit m below
+
+pub returns-in-Create-clause-plans : goal.returns-in-Create-clause-plans
+returns-in-Create-clause-plans g c n m at below =
+    let is_out = (g.P.Depot.state c.args.depot.now).is_out in
+    (promised_as g.D.Disk.state g.D.Disk.images n c.args.event.now (events.Create (nodes.Client c.in-Create.client) c.in-Create.table)
+    (creates c.args.event.now c.in-Create.client c.in-Create.table (sym c.in-Create.ensures)) is_out c.ask_create.result c.args.self.now c.ask_create.new.self
+    (c.ask_create.ensures.promises is_out n) at).plans m below
+
+pub returns-in-Create-clause-depot : goal.returns-in-Create-clause-depot
+returns-in-Create-clause-depot g c = counted_alone _ c.ask_create.result c.ask_create.ensures.apart
+
+pub returns-in-Create-clause-sound : goal.returns-in-Create-clause-sound
+returns-in-Create-clause-sound g c run first built follows h out =
+    goes_on_sound g.D.Disk.state g.D.Disk.images run c.args.event.now first built follows c.requires.built _ c.args.self.now c.ask_create.new.self c.ask_create.result
+    (returns-in-Create-clause-done g c _ (record { before = before_of run c.args.event.now first built follows; held = h; out = out }))
+
+pub ask_drop-requires : goal.ask_drop-requires
+ask_drop-requires g c =
+    let k = c.requires.held in
+    let is_out = (g.P.Depot.state c.args.depot.now).is_out in
+    record { held = (is_out, k.0, at_as g.D.Disk.state g.D.Disk.images c.args.event.now (events.Drop (nodes.Client c.in-Drop.client) c.in-Drop.table) (drops c.args.event.now c.in-Drop.client c.in-Drop.table (sym c.in-Drop.ensures)) k.0 is_out c.args.self.now k.1) }
+
+pub returns-in-Drop-clause-done : goal.returns-in-Drop-clause-done
+returns-in-Drop-clause-done g c n at =
+    let is_out = (g.P.Depot.state c.args.depot.now).is_out in
+    (promised_as g.D.Disk.state g.D.Disk.images n c.args.event.now (events.Drop (nodes.Client c.in-Drop.client) c.in-Drop.table)
+    (drops c.args.event.now c.in-Drop.client c.in-Drop.table (sym c.in-Drop.ensures)) is_out c.ask_drop.result c.args.self.now c.ask_drop.new.self
+    (c.ask_drop.ensures.promises is_out n) at).done
+
+pub returns-in-Drop-clause-over : goal.returns-in-Drop-clause-over
+returns-in-Drop-clause-over g c n at =
+    let is_out = (g.P.Depot.state c.args.depot.now).is_out in
+    (promised_as g.D.Disk.state g.D.Disk.images n c.args.event.now (events.Drop (nodes.Client c.in-Drop.client) c.in-Drop.table)
+    (drops c.args.event.now c.in-Drop.client c.in-Drop.table (sym c.in-Drop.ensures)) is_out c.ask_drop.result c.args.self.now c.ask_drop.new.self
+    (c.ask_drop.ensures.promises is_out n) at).over
+
+pub returns-in-Drop-clause-left : goal.returns-in-Drop-clause-left
+returns-in-Drop-clause-left g c n at =
+    let is_out = (g.P.Depot.state c.args.depot.now).is_out in
+    (promised_as g.D.Disk.state g.D.Disk.images n c.args.event.now (events.Drop (nodes.Client c.in-Drop.client) c.in-Drop.table)
+    (drops c.args.event.now c.in-Drop.client c.in-Drop.table (sym c.in-Drop.ensures)) is_out c.ask_drop.result c.args.self.now c.ask_drop.new.self
+    (c.ask_drop.ensures.promises is_out n) at).left
+
+pub returns-in-Drop-clause-limit : goal.returns-in-Drop-clause-limit
+returns-in-Drop-clause-limit g c n m at below =
+    let is_out = (g.P.Depot.state c.args.depot.now).is_out in
+    (promised_as g.D.Disk.state g.D.Disk.images n c.args.event.now (events.Drop (nodes.Client c.in-Drop.client) c.in-Drop.table)
+    (drops c.args.event.now c.in-Drop.client c.in-Drop.table (sym c.in-Drop.ensures)) is_out c.ask_drop.result c.args.self.now c.ask_drop.new.self
+    (c.ask_drop.ensures.promises is_out n) at).limit m below
+
+pub returns-in-Drop-clause-plans : goal.returns-in-Drop-clause-plans
+returns-in-Drop-clause-plans g c n m at below =
+    let is_out = (g.P.Depot.state c.args.depot.now).is_out in
+    (promised_as g.D.Disk.state g.D.Disk.images n c.args.event.now (events.Drop (nodes.Client c.in-Drop.client) c.in-Drop.table)
+    (drops c.args.event.now c.in-Drop.client c.in-Drop.table (sym c.in-Drop.ensures)) is_out c.ask_drop.result c.args.self.now c.ask_drop.new.self
+    (c.ask_drop.ensures.promises is_out n) at).plans m below
+
+pub returns-in-Drop-clause-depot : goal.returns-in-Drop-clause-depot
+returns-in-Drop-clause-depot g c = counted_alone _ c.ask_drop.result c.ask_drop.ensures.apart
+
+pub returns-in-Drop-clause-sound : goal.returns-in-Drop-clause-sound
+returns-in-Drop-clause-sound g c run first built follows h out =
+    goes_on_sound g.D.Disk.state g.D.Disk.images run c.args.event.now first built follows c.requires.built _ c.args.self.now c.ask_drop.new.self c.ask_drop.result
+    (returns-in-Drop-clause-done g c _ (record { before = before_of run c.args.event.now first built follows; held = h; out = out }))
+
+pub returns-in-Aside-clause-done : goal.returns-in-Aside-clause-done
+returns-in-Aside-clause-done g c n at =
+    (aside_promises g.D.Disk.state g.D.Disk.images g.met.D.Disk.only_now n c.args.event.now (sym c.in-Aside.ensures) (g.P.Depot.state c.args.depot.now).is_out c.args.self.now at
+    c.only.result c.only.ensures.lines c.only.ensures.memory).done
+
+pub returns-in-Aside-clause-over : goal.returns-in-Aside-clause-over
+returns-in-Aside-clause-over g c n at =
+    (aside_promises g.D.Disk.state g.D.Disk.images g.met.D.Disk.only_now n c.args.event.now (sym c.in-Aside.ensures) (g.P.Depot.state c.args.depot.now).is_out c.args.self.now at
+    c.only.result c.only.ensures.lines c.only.ensures.memory).over
+
+pub returns-in-Aside-clause-left : goal.returns-in-Aside-clause-left
+returns-in-Aside-clause-left g c n at =
+    (aside_promises g.D.Disk.state g.D.Disk.images g.met.D.Disk.only_now n c.args.event.now (sym c.in-Aside.ensures) (g.P.Depot.state c.args.depot.now).is_out c.args.self.now at
+    c.only.result c.only.ensures.lines c.only.ensures.memory).left
+
+pub returns-in-Aside-clause-limit : goal.returns-in-Aside-clause-limit
+returns-in-Aside-clause-limit g c n m at below =
+    (aside_promises g.D.Disk.state g.D.Disk.images g.met.D.Disk.only_now n c.args.event.now (sym c.in-Aside.ensures) (g.P.Depot.state c.args.depot.now).is_out c.args.self.now at
+    c.only.result c.only.ensures.lines c.only.ensures.memory).limit m below
+
+pub returns-in-Aside-clause-plans : goal.returns-in-Aside-clause-plans
+returns-in-Aside-clause-plans g c n m at below =
+    (aside_promises g.D.Disk.state g.D.Disk.images g.met.D.Disk.only_now n c.args.event.now (sym c.in-Aside.ensures) (g.P.Depot.state c.args.depot.now).is_out c.args.self.now at
+    c.only.result c.only.ensures.lines c.only.ensures.memory).plans m below
+
+pub returns-in-Aside-clause-depot : goal.returns-in-Aside-clause-depot
+returns-in-Aside-clause-depot g c = counted_alone _ c.only.result (memory_apart c.only.result c.only.ensures.memory)
+
+pub returns-in-Aside-clause-sound : goal.returns-in-Aside-clause-sound
+returns-in-Aside-clause-sound g c run first built follows h out =
+    goes_on_sound g.D.Disk.state g.D.Disk.images run c.args.event.now first built follows c.requires.built _ c.args.self.now c.args.self.now c.only.result
+    (returns-in-Aside-clause-done g c _ (record { before = before_of run c.args.event.now first built follows; held = h; out = out }))

@@ -1,5 +1,4 @@
-use Rattle.std.proofs.Common.{◌+◌, ◌∙◌, refl, sym}
-use Rattle.std.proofs.lemmas.Result.{err_from_is_err_and}
+use Rattle.std.proofs.Common.{◌+◌, ◌∙◌, sym}
 use Rattle.stab_base.specs.declared.node.Node.TheVariants as nodes
 use Rattle.table_model.specs.declared.event.Event.TheVariants as events
 use Rattle.net_steps.specs.Steps.{may_begin}

@@ -1,5 +1,5 @@
 use Rattle.simba_top.proofs.Declared.{early}
-use Rattle.simba_top.proofs.Events.{built}
+use Rattle.simba_top.proofs.Events.{built, framed}
 use Rattle.std.proofs.lemmas.Result.{err_from_is_err_and}
 use Rattle.simba_top.proofs.Sounds.{nothing_undone}
 use Rattle.simba_top.specs.Ends.{IsNext, IsRun}
@@ -10,6 +10,9 @@ use Rattle.simba_top.proofs.turn.Run.event_texts.Goals as goal
 
 pub carry_out-requires-clause-built : goal.carry_out-requires-clause-built
 carry_out-requires-clause-built g c = built c.args.self.now.names c.args.line.now c.in-Some.event (rw c.in-Some.is at c.in_ok-event.ensures.event)
+
+pub carry_out-requires-clause-framed : goal.carry_out-requires-clause-framed
+carry_out-requires-clause-framed g c = framed c.args.self.now.names c.args.line.now c.in-Some.event (rw c.in-Some.is at c.in_ok-event.ensures.event)
 
 pub carry_out-requires-clause-early : goal.carry_out-requires-clause-early
 carry_out-requires-clause-early g c = early c.args.self.now.names c.args.line.now c.in-Some.event (rw c.in-Some.is at c.in_ok-event.ensures.event)

@@ -1,0 +1,59 @@
+use Rattle.std.proofs.Common.{refl}
+use Rattle.stab_base.specs.declared.node.Node.TheVariants as nodes
+use Rattle.table_model.specs.declared.event.Event.TheVariants as events
+use Rattle.table_model.specs.declared.table_state.TableState.TheVariants as states
+use Rattle.world_tables.specs.World.{Lucks}
+use Rattle.wire_tables.specs.Wire.{wire_step}
+use Rattle.gated_tables.specs.Net.{answering, asked_by, carried_on, creates}
+use Rattle.net_steps.specs.Askers.{asker_of}
+use Rattle.net_steps.proofs.Brought.{counted_apart}
+use Rattle.net_steps.proofs.Created.{draft_other, draft_same}
+use Rattle.net_steps.proofs.Delivered.{comes_as, comes_by}
+use Rattle.net_steps.proofs.Replied.{may_refuse}
+use Rattle.net_steps.proofs.world.World.create_draft.Goals as goal
+
+pub answer_alone-requires : goal.answer_alone-requires
+answer_alone-requires g c =
+    let k = c.requires.here in
+    record {
+      here = (
+        (g.P.Depot.state c.args.depot.now).is_out,
+        nodes.Store c.args.store,
+        k.0,
+        k.1,
+        may_refuse g.D.Disk.state k.0 c.args.asked.now.table c.args.asker.client c.args.self.now k.1.held k.2.client 2,
+      );
+    }
+
+pub alter-requires-clause-alters : goal.alter-requires-clause-alters
+alter-requires-clause-alters g c = tt
+
+pub alter-requires-clause-here : goal.alter-requires-clause-here
+alter-requires-clause-here g c = let k = c.requires.here in (nodes.Store c.args.store, k.0, k.1, k.2)
+
+pub returns-then-not-is_declared-clause-comes : goal.returns-then-not-is_declared-clause-comes
+returns-then-not-is_declared-clause-comes g c n x k =
+    let is_out = (g.P.Depot.state c.args.depot.now).is_out in
+    let m = c.args.asked.now in
+    let a = asker_of c.args.asker in
+    let f = λ (lucks : Lucks). answering n m.table a 2 18 in
+    comes_as g.D.Disk.state g.D.Disk.images n (λ lucks. creates n c.args.store a m lucks states.Draft) f
+    (draft_other n c.args.store a m c.is_declared.result (c.is_declared.ensures n x.held) c.if-not-is_declared.true) c.answer_alone.result is_out c.args.self.now c.answer_alone.new.self
+    (comes_by g.D.Disk.state g.D.Disk.images n f c.answer_alone.result is_out c.args.self.now c.answer_alone.new.self
+    (c.answer_alone.ensures is_out (nodes.Store c.args.store) n x (may_refuse g.D.Disk.state n m.table c.args.asker.client c.args.self.now x.held k.client 2)))
+
+pub returns-then-not-is_declared-clause-depot : goal.returns-then-not-is_declared-clause-depot
+returns-then-not-is_declared-clause-depot g c =
+    let k = c.requires.here in
+    counted_apart _ _ refl c.answer_alone.result
+    (c.answer_alone.ensures (g.P.Depot.state c.args.depot.now).is_out (nodes.Store c.args.store) k.0 k.1
+    (may_refuse g.D.Disk.state k.0 c.args.asked.now.table c.args.asker.client c.args.self.now k.1.held k.2.client 2)).apart
+
+pub returns-clause-comes : goal.returns-clause-comes
+returns-clause-comes g c n x k =
+    let m = c.args.asked.now in
+    let a = asker_of c.args.asker in
+    comes_as g.D.Disk.state g.D.Disk.images n (λ lucks. creates n c.args.store a m lucks states.Draft)
+    (λ lucks. carried_on (asked_by m.table a n) (wire_step n.wire (events.Create (nodes.Store c.args.store) m.table) lucks))
+    (draft_same n c.args.store a m c.is_declared.result (c.is_declared.ensures n x.held) c.if-not-is_declared.false) c.alter.result (g.P.Depot.state c.alter.new.depot).is_out c.args.self.now
+    c.alter.new.self (c.alter.ensures.comes (nodes.Store c.args.store) n x k)

@@ -1,10 +1,11 @@
 -- What the words of a line spell that reads well.
-use Rattle.std.proofs.Common.{◌≡◌, ℕ, Bool, true, false, ltb, List, [], ◌∷◌, map, codes, cond, length, Option, Some, None, Result, Ok, Err, refl, sym, ap, ◌∙◌, subst, arith}
+use Rattle.std.proofs.Common.{◌≡◌, ℕ, Bool, true, false, ltb, List, [], ◌∷◌, drop, map, codes, cond, length, Option, Some, None, Result, Ok, Err, refl, sym, ap, ◌∙◌, subst, arith}
 use Rattle.std.specs.Result.{MatchResult}
 use Rattle.std.specs.Fmt.{decimal}
 use Rattle.std.proofs.lemmas.Bool.{ltb-false}
 use Rattle.row_value.specs.declared.schema.Scheme.{Scheme}
 use Rattle.row_value.specs.declared.schema.Column.{Column}
+use Rattle.row_value.specs.declared.schema.Schema.{Schema}
 use Rattle.table_model.specs.declared.event.Event.{Event}
 use Rattle.table_model.specs.declared.event.Event.TheVariants as events
 use Rattle.script_text.specs.declared.fault.BadLine.{BadLine}
@@ -13,13 +14,14 @@ use Rattle.script_text.specs.declared.verb.Verb.{Verb}
 use Rattle.script_text.specs.declared.verb.Verb.TheVariants as verbs
 use Rattle.script_text.specs.Verbs.{edit_name, name_of}
 use Rattle.script_text.specs.Names.{Names, has_no_store, columns_of}
-use Rattle.script_text.specs.Places.{◌>>=◌, names_of, new_store_at, new_gate_at, new_table_at, new_client_at, tables_at, new_name_at, scheme_at, chunk_at}
-use Rattle.script_text.specs.Reading.{made_store, made_table, made_client, store_in, table_in, client_in, content_in, some_columns_in, write_in, client_row_in, show_in, gate_in, made_gate}
+use Rattle.script_text.specs.Places.{◌>>=◌, passed, or_else, table_number, names_of, new_store_at, new_gate_at, new_table_at, new_client_at, tables_at, new_name_at, scheme_at, chunk_at}
+use Rattle.script_text.specs.Reading.{made_store, made_table, declared_by, made_client, store_in, new_table_in, table_in, draft_in, create_in, drop_in, client_in, content_in, some_columns_in, write_in, client_row_in, show_in, gate_in, made_gate}
 use Rattle.script_text.specs.Reading.{sum_in, client_table_in, sync_in, pull_in, begin_cr_in, conflicts_in, end_cr_in, choice_in, resolve_in, rule_in, resolve_all_in}
 use Rattle.script_text.specs.Reading.{deliver_in, store_show_in, history_in, chunks_in, node_in, hold_in, free_in, work_in, work_all_in, start_in, crash_in, link_in, change_in, edit_in}
 use Rattle.stab_base.specs.Row.{row_of}
 use Rattle.stab_base.specs.declared.node.Node.{Node}
-use Rattle.script_text.specs.Grammar.{SpelledBy, AreColumns, scheme_word, client_word, table_word, tables_word, node_word, gateway_word, IsClient, IsTable, IsNode, limit_of, verb_for}
+use Rattle.stab_base.specs.declared.node.Node.TheVariants as nodes
+use Rattle.script_text.specs.Grammar.{SpelledBy, SpellsNewTable, columns_passed, AreColumns, scheme_word, client_word, table_word, tables_word, node_word, gateway_word, IsClient, IsTable, IsNode, limit_of, verb_for}
 use Rattle.script_text.proofs.Steps.{ok_err, bind-ok, word_in-ok, end-ok}
 use Rattle.script_text.proofs.Numbers.{number_at-ok, number_to-ok}
 use Rattle.script_text.proofs.Distinct.{new-distinct}
@@ -34,7 +36,7 @@ use Rattle.script_text.proofs.RuleLemmas.{rule-ok}
 use Rattle.script_text.proofs.EditLemmas.{direction_at-ok, change_in-ok}
 use Rattle.script_text.proofs.TableLemmas.{tables_at-ok, tables_at-within, tables_at-limit}
 
-ok_told : {x y : Result Event ℕ} → ◌≡◌ {A = Result (Result Event ℕ) BadLine} (Ok x) (Ok y) → x ≡ y
+ok_told : {X : Type 0} {x y : X} → ◌≡◌ {A = Result X BadLine} (Ok x) (Ok y) → x ≡ y
 ok_told e = cc
 
 event_told : {x y : Event} → ◌≡◌ {A = Result Event BadLine} (Ok x) (Ok y) → x ≡ y
@@ -70,32 +72,7 @@ module _ (names : Names) where
       let words : codes "client" ∷ w ∷ u ∷ v ∷ [] ≡ codes "client" ∷ client_word n ∷ gateway_word gate ∷ tables_word tables ∷ [] = rw (p.0, q.0, s.0) refl in
       ((words, p.1, q.1, s.1, s.2, early, p.2), (rw (new_client_at-within names w n h, q.2, tables_at-within names v tables k) refl))
 
-  table-picked : (ws : List (List ℕ)) (e : Event) (many : Bool) → (many ≡ true → limit_of verbs.Table ws ≡ Some 8)
-      → (many ≡ false → SpelledBy names (codes "table" ∷ ws) e × (limit_of verbs.Table ws ≡ None)) → Told names verbs.Table ws (cond many (Err 8) (Ok e))
-  table-picked ws e true h k = h refl
-  table-picked ws e false h k = k refl
-
-  table-told : (w name c d : List ℕ) (k : List (List ℕ)) (o : Option ℕ) (scheme : Scheme) (chunk : ℕ) (columns : List Column) → names.started ≡ false → has_no_store names ≡ false
-      → new_table_at names w ≡ Ok o → new_name_at names name ≡ Ok name → scheme_at c ≡ Ok scheme → chunk_at d ≡ Ok chunk → some_columns_in 5 k ≡ Ok columns
-      → Told names verbs.Table (w ∷ name ∷ c ∷ d ∷ k) (made_table o (record { name = name; scheme = scheme; chunk = chunk; columns = columns }))
-  table-told w name c d k None scheme chunk columns early store h hb hc hd hk = rw (new_table_at-limit names w h) refl
-  table-told w name c d k (Some n) scheme chunk columns early store h hb hc hd hk =
-      let pa = new_table_at-ok names w n h in
-      let pb = new_name_at-ok names name name hb in
-      let pc = scheme_at-ok c scheme hc in
-      let pd = chunk_at-ok d chunk hd in
-      let pk = some_columns-ok 5 k columns hk in
-      let count = same_count k columns pk.0 in
-      let long : ltb 32 (length k) ≡ ltb 32 (length columns) = ap (ltb 32) count in
-      let words : codes "table" ∷ w ∷ name ∷ c ∷ d ∷ k ≡ codes "table" ∷ table_word n ∷ name ∷ scheme_word scheme ∷ decimal chunk ∷ map column_word columns = cc (pa.0, pc, pd.0, pk.0) in
-      table-picked (w ∷ name ∷ c ∷ d ∷ k) (events.Table n (record { name = name; scheme = scheme; chunk = chunk; columns = columns })) (ltb 32 (length columns))
-      (λ many. rw (new_table_at-within names w n h, long ∙ many) refl)
-      (λ few.
-      let within = ltb-false 32 (length columns) few in
-      let all : AreColumns columns = record { some = pk.4; few = omega (arith, within); names = pk.1; distinct = new-distinct (names_of columns) pk.2; order = pk.3 } in
-      ((words, pa.1, pd.1, all, pb.1, early, store, pa.2, pb.2), rw (new_table_at-within names w n h, long ∙ few) refl))
-
-columns-told : (o : Option ℕ) (name : List ℕ) (scheme : Scheme) (chunk : ℕ) (r : Result (List Column) BadLine) (e : Result Event ℕ)
+columns-told : (o : Option ℕ) (name : List ℕ) (scheme : Scheme) (chunk : ℕ) (r : Result (List Column) BadLine) (e : Result (ℕ × Schema) ℕ)
     → (r >>= λ columns. Ok (made_table o (record { name = name; scheme = scheme; chunk = chunk; columns = columns }))) ≡ Ok e
     → (columns : List Column) × (r ≡ Ok columns) × (made_table o (record { name = name; scheme = scheme; chunk = chunk; columns = columns }) ≡ e)
 columns-told o name scheme chunk (Ok columns) e h = (columns, refl, ok_told h)
@@ -104,6 +81,54 @@ columns-told o name scheme chunk (Err fault) e h = absurd (ok_err e fault (sym h
 told-at : (names : Names) (verb : Verb) (ws vs : List (List ℕ)) (told e : Result Event ℕ) → ws ≡ vs → told ≡ e → Told names verb vs told → Told names verb ws e
 told-at names verb ws vs told e words same h =
     subst (λ (x : Result Event ℕ). Told names verb ws x) {x = told} same (subst (λ (t : List (List ℕ)). Told names verb t told) {x = vs} (sym words) h)
+
+-- a verb that declares tables
+module _ (names : Names) (verb : Verb) (event : ℕ → Schema → Event)
+    (spells : (ws : List (List ℕ)) (table : ℕ) (schema : Schema) → SpellsNewTable (name_of verb) names ws table schema → SpelledBy names ws (event table schema))
+    (limits : (table : List ℕ) (ws : List (List ℕ)) → limit_of verb (table ∷ ws) ≡ or_else (passed 4 (table_number table)) (columns_passed (drop 3 ws))) where
+  table-picked : (ws : List (List ℕ)) (table : ℕ) (schema : Schema) (many : Bool) → (many ≡ true → limit_of verb ws ≡ Some 8)
+      → (many ≡ false → SpelledBy names (name_of verb ∷ ws) (event table schema) × (limit_of verb ws ≡ None)) → Told names verb ws (declared_by event (cond many (Err 8) (Ok (table, schema))))
+  table-picked ws table schema true h k = h refl
+  table-picked ws table schema false h k = k refl
+
+  table-told : (w name c d : List ℕ) (k : List (List ℕ)) (o : Option ℕ) (scheme : Scheme) (chunk : ℕ) (columns : List Column) → names.started ≡ false → has_no_store names ≡ false
+      → new_table_at names w ≡ Ok o → new_name_at names name ≡ Ok name → scheme_at c ≡ Ok scheme → chunk_at d ≡ Ok chunk → some_columns_in 5 k ≡ Ok columns
+      → Told names verb (w ∷ name ∷ c ∷ d ∷ k) (declared_by event (made_table o (record { name = name; scheme = scheme; chunk = chunk; columns = columns })))
+  table-told w name c d k None scheme chunk columns early store h hb hc hd hk = limits w (name ∷ c ∷ d ∷ k) ∙ rw (new_table_at-limit names w h) refl
+  table-told w name c d k (Some n) scheme chunk columns early store h hb hc hd hk =
+      let pa = new_table_at-ok names w n h in
+      let pb = new_name_at-ok names name name hb in
+      let pc = scheme_at-ok c scheme hc in
+      let pd = chunk_at-ok d chunk hd in
+      let pk = some_columns-ok 5 k columns hk in
+      let count = same_count k columns pk.0 in
+      let long : ltb 32 (length k) ≡ ltb 32 (length columns) = ap (ltb 32) count in
+      let words : name_of verb ∷ w ∷ name ∷ c ∷ d ∷ k ≡ name_of verb ∷ table_word n ∷ name ∷ scheme_word scheme ∷ decimal chunk ∷ map column_word columns = cc (pa.0, pc, pd.0, pk.0) in
+      let schema : Schema = record { name = name; scheme = scheme; chunk = chunk; columns = columns } in
+      table-picked (w ∷ name ∷ c ∷ d ∷ k) n schema (ltb 32 (length columns))
+      (λ many. limits w (name ∷ c ∷ d ∷ k) ∙ rw (new_table_at-within names w n h, long ∙ many) refl)
+      (λ few.
+      let within = ltb-false 32 (length columns) few in
+      let all : AreColumns columns = record { some = pk.4; few = omega (arith, within); names = pk.1; distinct = new-distinct (names_of columns) pk.2; order = pk.3 } in (
+        spells (name_of verb ∷ w ∷ name ∷ c ∷ d ∷ k) n schema (words, pa.1, pd.1, all, pb.1, early, store, pa.2, pb.2),
+        limits w (name ∷ c ∷ d ∷ k) ∙ rw (new_table_at-within names w n h, long ∙ few) refl,
+      ))
+
+  new_table-ok : (ws : List (List ℕ)) (made : Result (ℕ × Schema) ℕ) → names.started ≡ false → has_no_store names ≡ false → new_table_in names ws ≡ Ok made
+      → Told names verb ws (declared_by event made)
+  unfolding new_table_in
+  new_table-ok ws made early store h =
+      let a = word_in-ok _ _ _ ws made h in
+      let b = word_in-ok _ _ _ a.1 made a.5 in
+      let c = word_in-ok _ _ _ b.1 made b.5 in
+      let d = word_in-ok _ _ _ c.1 made c.5 in
+      let k = columns-told a.2 b.2 c.2 d.2 (some_columns_in 5 d.1) made d.5 in
+      let name = new_name_at-ok names b.0 b.2 b.4 in
+      let is : ws ≡ a.0 ∷ b.2 ∷ c.0 ∷ d.0 ∷ d.1 = cc (a.3, b.3, c.3, d.3, name.0) in
+      let named : new_name_at names b.2 ≡ Ok b.2 = ap (new_name_at names) (sym name.0) ∙ b.4 in
+      let told = declared_by event (made_table a.2 (record { name = b.2; scheme = c.2; chunk = d.2; columns = k.0 })) in
+      told-at names verb ws (a.0 ∷ b.2 ∷ c.0 ∷ d.0 ∷ d.1) told (declared_by event made) is (ap (declared_by event) k.2)
+      (table-told a.0 b.2 c.0 d.0 d.1 a.2 c.2 d.2 k.0 early store a.4 named c.4 d.4 k.1)
 
 module _ (names : Names) (ws : List (List ℕ)) (e : Result Event ℕ) where
   pub store-ok : names.started ≡ false → store_in names ws ≡ Ok e → Told names verbs.Store ws e
@@ -134,18 +159,16 @@ module _ (names : Names) (ws : List (List ℕ)) (e : Result Event ℕ) where
       (client-told names a.0 b.0 c.0 a.2 b.2 c.2 early a.4 (gate_at-ok names b.0 b.2 b.4) c.4)
 
   pub table-ok : names.started ≡ false → has_no_store names ≡ false → table_in names ws ≡ Ok e → Told names verbs.Table ws e
-  unfolding table_in
   table-ok early store h =
-      let a = word_in-ok _ _ _ ws e h in
-      let b = word_in-ok _ _ _ a.1 e a.5 in
-      let c = word_in-ok _ _ _ b.1 e b.5 in
-      let d = word_in-ok _ _ _ c.1 e c.5 in
-      let k = columns-told a.2 b.2 c.2 d.2 (some_columns_in 5 d.1) e d.5 in
-      let name = new_name_at-ok names b.0 b.2 b.4 in
-      let is : ws ≡ a.0 ∷ b.2 ∷ c.0 ∷ d.0 ∷ d.1 = cc (a.3, b.3, c.3, d.3, name.0) in
-      let named : new_name_at names b.2 ≡ Ok b.2 = ap (new_name_at names) (sym name.0) ∙ b.4 in
-      told-at names verbs.Table ws (a.0 ∷ b.2 ∷ c.0 ∷ d.0 ∷ d.1) (made_table a.2 (record { name = b.2; scheme = c.2; chunk = d.2; columns = k.0 })) e is k.2
-      (table-told names a.0 b.2 c.0 d.0 d.1 a.2 c.2 d.2 k.0 early store a.4 named c.4 d.4 k.1)
+      let p = bind-ok (new_table_in names ws) (λ made. Ok (declared_by events.Table made)) e h in
+      told-at names verbs.Table ws ws (declared_by events.Table p.0) e refl (ok_told p.2)
+      (new_table-ok names verbs.Table events.Table (λ words table schema s. s) (λ table words. refl) ws p.0 early store p.1)
+
+  pub draft-ok : names.started ≡ false → has_no_store names ≡ false → draft_in names ws ≡ Ok e → Told names verbs.Draft ws e
+  draft-ok early store h =
+      let p = bind-ok (new_table_in names ws) (λ made. Ok (declared_by events.Draft made)) e h in
+      told-at names verbs.Draft ws ws (declared_by events.Draft p.0) e refl (ok_told p.2)
+      (new_table-ok names verbs.Draft events.Draft (λ words table schema s. s) (λ table words. refl) ws p.0 early store p.1)
 
 module _ (names : Names) (ws : List (List ℕ)) where
   client_table-ok : (p : ℕ × ℕ) → client_table_in names ws ≡ Ok p → (ws ≡ client_word p.0 ∷ table_word p.1 ∷ []) × IsClient names p.0 × IsTable names p.1
@@ -174,6 +197,18 @@ module _ (names : Names) (ws : List (List ℕ)) where
       (c.0, is, u.1, v.1, row_at-ok c.0 c.2 c.4)
 
   module _ (e : Event) where
+    pub create-ok : create_in names ws ≡ Ok e → SpelledBy names (codes "create" ∷ ws) e
+    create-ok h =
+        let p = bind-ok (client_table_in names ws) (λ q. Ok (events.Create (nodes.Client q.0) q.1)) e h in
+        let q = client_table-ok p.0 p.1 in
+        subst (λ (x : Event). SpelledBy names (codes "create" ∷ ws) x) (event_told p.2) (ap (λ (t : List (List ℕ)). codes "create" ∷ t) q.0, q.1, q.2)
+
+    pub drop-ok : drop_in names ws ≡ Ok e → SpelledBy names (codes "drop" ∷ ws) e
+    drop-ok h =
+        let p = bind-ok (client_table_in names ws) (λ q. Ok (events.Drop (nodes.Client q.0) q.1)) e h in
+        let q = client_table-ok p.0 p.1 in
+        subst (λ (x : Event). SpelledBy names (codes "drop" ∷ ws) x) (event_told p.2) (ap (λ (t : List (List ℕ)). codes "drop" ∷ t) q.0, q.1, q.2)
+
     pub sync-ok : sync_in names ws ≡ Ok e → SpelledBy names (codes "sync" ∷ ws) e
     sync-ok h =
         let p = bind-ok (client_table_in names ws) (λ q. Ok (events.Sync q.0 q.1)) e h in

@@ -9,21 +9,21 @@ use Rattle.script_text.specs.declared.verb.Verb.TheVariants as verbs
 use Rattle.script_text.specs.Faults.{bad}
 use Rattle.script_text.specs.Verbs.{verb_of, name_of, is_unbuilt}
 use Rattle.script_text.specs.Names.{Names, has_no_store}
-use Rattle.script_text.specs.Reading.{write_in, show_in, sum_in, sync_in, pull_in, deliver_in, store_show_in, history_in, chunks_in, hold_in, free_in, work_in, work_all_in, crash_in, start_in}
+use Rattle.script_text.specs.Reading.{write_in, create_in, drop_in, show_in, sum_in, sync_in, pull_in, deliver_in, store_show_in, history_in, chunks_in, hold_in, free_in, work_in, work_all_in, crash_in, start_in}
 use Rattle.script_text.specs.Reading.{begin_cr_in, conflicts_in, end_cr_in, resolve_in, resolve_all_in}
 use Rattle.script_text.specs.Reading.{link_in, edit_in, unlimited, in_time, built_in, with_verb, event_in, found, words_in}
 use Rattle.script_text.specs.Grammar.{SpelledBy, VerbFault, WordsFault, limit_of, WordsLimit}
 use Rattle.script_text.proofs.Steps.{ok_err, bind-ok, bind-err}
 use Rattle.script_text.proofs.Numbers.{some_same, none_some}
 use Rattle.script_text.proofs.VerbWords.{verb-some, verb-none, verb-again}
-use Rattle.script_text.proofs.Goods.{Told, store-ok, gate-ok, table-ok, client-ok, write-ok, show-ok, sum-ok, sync-ok, pull-ok, deliver-ok, store_show-ok, history-ok, chunks-ok}
+use Rattle.script_text.proofs.Goods.{Told, store-ok, gate-ok, table-ok, draft-ok, client-ok, write-ok, create-ok, drop-ok, show-ok, sum-ok, sync-ok, pull-ok, deliver-ok, store_show-ok, history-ok, chunks-ok}
 use Rattle.script_text.proofs.Goods.{begin_cr-ok, conflicts-ok, end_cr-ok, resolve-ok, resolve_all-ok}
 use Rattle.script_text.proofs.Goods.{link-ok, edit-ok, hold-ok, free-ok, work-ok, work_all-ok, crash-ok, start-ok}
 use Rattle.script_text.proofs.Stops.{begin_cr-err, conflicts-err, end_cr-err, resolve-err, resolve_all-err}
 use Rattle.script_text.proofs.Stops.{begin_cr-fault, conflicts-fault, end_cr-fault, resolve-fault, resolve_all-fault}
-use Rattle.script_text.proofs.Stops.{store-err, gate-err, table-err, client-err, write-err, show-err, sum-err, sync-err, pull-err}
+use Rattle.script_text.proofs.Stops.{store-err, gate-err, table-err, draft-err, client-err, write-err, create-err, drop-err, show-err, sum-err, sync-err, pull-err}
 use Rattle.script_text.proofs.Stops.{link-err, edit-err, link-fault, edit-fault, deliver-err, store_show-err, history-err, chunks-err, hold-err, free-err, work-err, work_all-err, crash-err, start-err}
-use Rattle.script_text.proofs.Stops.{store-fault, gate-fault, table-fault, client-fault, chunks-fault, hold-fault, free-fault, work-fault, work_all-fault, crash-fault, start-fault}
+use Rattle.script_text.proofs.Stops.{store-fault, gate-fault, table-fault, draft-fault, client-fault, create-fault, drop-fault, chunks-fault, hold-fault, free-fault, work-fault, work_all-fault, crash-fault, start-fault}
 use Rattle.script_text.proofs.Stops.{write-fault, show-fault, sum-fault, sync-fault, pull-fault, deliver-fault, store_show-fault, history-fault}
 
 unless : {X : Type 0} (b : Bool) (r : Result X BadLine) (f : BadLine) (x : X) → cond b (Err f) r ≡ Ok x → (b ≡ false) × (r ≡ Ok x)
@@ -90,10 +90,15 @@ module _ (names : Names) (first : List ℕ) (ws : List (List ℕ)) where
   event-built verbs.Table told h =
       let q = unless (has_no_store names) _ (bad NotDeclared 0) told h in
       let p = in_time-ok _ told q.1 in table-ok names ws told p.0 q.0 p.1
+  event-built verbs.Draft told h =
+      let q = unless (has_no_store names) _ (bad NotDeclared 0) told h in
+      let p = in_time-ok _ told q.1 in draft-ok names ws told p.0 q.0 p.1
   event-built verbs.Client told h = let p = in_time-ok _ told h in client-ok names ws told p.0 p.1
   event-built verbs.Write told h = plain-built verbs.Write (write_in names ws) told refl (write-ok names ws) h
   event-built (verbs.Edit verb) told h = plain-built (verbs.Edit verb) (edit_in names verb ws) told refl (λ e. edit-ok names ws e verb) h
   event-built verbs.Link told h = plain-built verbs.Link (link_in names ws) told refl (link-ok names ws) h
+  event-built verbs.Create told h = plain-built verbs.Create (create_in names ws) told refl (create-ok names ws) h
+  event-built verbs.Drop told h = plain-built verbs.Drop (drop_in names ws) told refl (drop-ok names ws) h
   event-built verbs.Show told h = plain-built verbs.Show (show_in names ws) told refl (show-ok names ws) h
   event-built verbs.Sum told h = plain-built verbs.Sum (sum_in names ws) told refl (sum-ok names ws) h
   event-built verbs.Sync told h = plain-built verbs.Sync (sync_in names ws) told refl (sync-ok names ws) h
@@ -126,10 +131,13 @@ module _ (names : Names) (first : List ℕ) (ws : List (List ℕ)) where
   fault-built verbs.Store f h = early names.started f h (store-err names ws f)
   fault-built verbs.Gate f h = early names.started f h (gate-err names ws f)
   fault-built verbs.Table f h = stored (has_no_store names) names.started f h (table-err names ws f)
+  fault-built verbs.Draft f h = stored (has_no_store names) names.started f h (draft-err names ws f)
   fault-built verbs.Client f h = early names.started f h (client-err names ws f)
   fault-built verbs.Write f h = write-err names ws f (unlimited-err _ f h)
   fault-built (verbs.Edit verb) f h = edit-err names ws f verb (unlimited-err _ f h)
   fault-built verbs.Link f h = link-err names ws f (unlimited-err _ f h)
+  fault-built verbs.Create f h = create-err names ws f (unlimited-err _ f h)
+  fault-built verbs.Drop f h = drop-err names ws f (unlimited-err _ f h)
   fault-built verbs.Show f h = show-err names ws f (unlimited-err _ f h)
   fault-built verbs.Sum f h = sum-err names ws f (unlimited-err _ f h)
   fault-built verbs.Sync f h = sync-err names ws f (unlimited-err _ f h)
@@ -162,10 +170,13 @@ module _ (names : Names) (first : List ℕ) (ws : List (List ℕ)) where
   built-fault verbs.Store f h = early-fault names.started f h (store-fault names ws f)
   built-fault verbs.Gate f h = early-fault names.started f h (gate-fault names ws f)
   built-fault verbs.Table f h = stored-fault (has_no_store names) names.started f h (table-fault names ws f)
+  built-fault verbs.Draft f h = stored-fault (has_no_store names) names.started f h (draft-fault names ws f)
   built-fault verbs.Client f h = early-fault names.started f h (client-fault names ws f)
   built-fault verbs.Write f h = rw (write-fault names ws f h) refl
   built-fault (verbs.Edit verb) f h = rw (edit-fault names ws f verb h) refl
   built-fault verbs.Link f h = rw (link-fault names ws f h) refl
+  built-fault verbs.Create f h = rw (create-fault names ws f h) refl
+  built-fault verbs.Drop f h = rw (drop-fault names ws f h) refl
   built-fault verbs.Show f h = rw (show-fault names ws f h) refl
   built-fault verbs.Sum f h = rw (sum-fault names ws f h) refl
   built-fault verbs.Sync f h = rw (sync-fault names ws f h) refl

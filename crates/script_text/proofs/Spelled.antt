@@ -18,14 +18,15 @@ use Rattle.script_text.specs.Verbs.{name_of}
 use Rattle.script_text.specs.Names.{Names, has_no_store, columns_of}
 use Rattle.script_text.specs.Places.{names_of}
 use Rattle.script_words.specs.Columns.{column_word}
-use Rattle.script_text.specs.Reading.{store_in, made_table, table_in, client_in, write_in, client_row_in, show_in, gate_in}
+use Rattle.script_text.specs.Reading.{store_in, made_table, new_table_in, table_in, draft_in, create_in, drop_in, client_in, write_in, client_row_in, show_in, gate_in}
 use Rattle.script_text.specs.Reading.{begin_cr_in, conflicts_in, end_cr_in, resolve_in, resolve_all_in}
 use Rattle.script_text.specs.Reading.{sum_in, client_table_in, sync_in, pull_in, deliver_in, store_show_in, history_in, chunks_in}
 use Rattle.script_text.specs.Reading.{node_in, hold_in, free_in, work_in, work_all_in, start_in, crash_in, link_in, edit_in}
 use Rattle.script_text.specs.Reading.{unlimited, in_time, built_in, event_in, words_in}
 use Rattle.stab_base.specs.Row.{row_of}
 use Rattle.stab_base.specs.declared.node.Node.{Node}
-use Rattle.script_text.specs.Grammar.{SpelledBy, SpellsStore, SpellsTable, SpellsClient, SpellsWrite, SpellsShow, SpellsSum, SpellsSync, SpellsGate, gate_word, gateway_word}
+use Rattle.stab_base.specs.declared.node.Node.TheVariants as nodes
+use Rattle.script_text.specs.Grammar.{SpelledBy, SpellsStore, SpellsNewTable, SpellsTable, SpellsDraft, SpellsClient, SpellsCreate, SpellsDrop, SpellsWrite, SpellsShow, SpellsSum, SpellsSync, SpellsGate, gate_word, gateway_word}
 use Rattle.script_text.specs.Grammar.{SpellsPull, SpellsDeliver, SpellsStoreShow, SpellsHistory, SpellsChunks, SpellsHold, SpellsFree, SpellsWork, SpellsWorkAll, SpellsStart, SpellsCrash, client_word, store_word}
 use Rattle.script_text.specs.Grammar.{scheme_word, SpellsBeginCr, SpellsConflicts, SpellsEndCr, SpellsResolve, SpellsResolveAll}
 use Rattle.script_text.specs.Grammar.{table_word, tables_word, node_word, IsClient, IsTable, IsNode, verb_for, SpellsEdited, SpellsLink}
@@ -78,6 +79,20 @@ module _ (names : Names) where
       word_in-right 1 _ (client_word client) _ _ client (client_at-right names client p)
       ∙ word_in-right 2 _ (table_word table) _ _ table (table_at-right names table q)
       ∙ rw (end_in-right 3) refl
+
+  create-right : (ws : List (List ℕ)) (node : Node) (table : ℕ) → SpellsCreate names ws node table → words_in names ws ≡ Ok (Ok (Some (events.Create node table)))
+  create-right ws (nodes.Client client) table h =
+      let read : create_in names (client_word client ∷ table_word table ∷ []) ≡ Ok (events.Create (nodes.Client client) table) = rw (client_table-right client table h.1 h.2) refl in
+      rw h.0 (event_in-right names verbs.Create (client_word client ∷ table_word table ∷ []) (events.Create (nodes.Client client) table) (ap unlimited read))
+  create-right ws (nodes.Store store) table h = absurd h
+  create-right ws (nodes.Gate gate) table h = absurd h
+
+  drop-right : (ws : List (List ℕ)) (node : Node) (table : ℕ) → SpellsDrop names ws node table → words_in names ws ≡ Ok (Ok (Some (events.Drop node table)))
+  drop-right ws (nodes.Client client) table h =
+      let read : drop_in names (client_word client ∷ table_word table ∷ []) ≡ Ok (events.Drop (nodes.Client client) table) = rw (client_table-right client table h.1 h.2) refl in
+      rw h.0 (event_in-right names verbs.Drop (client_word client ∷ table_word table ∷ []) (events.Drop (nodes.Client client) table) (ap unlimited read))
+  drop-right ws (nodes.Store store) table h = absurd h
+  drop-right ws (nodes.Gate gate) table h = absurd h
 
   sync-right : (ws : List (List ℕ)) (client table : ℕ) → SpellsSync names ws client table → words_in names ws ≡ Ok (Ok (Some (events.Sync client table)))
   sync-right ws client table h =
@@ -266,32 +281,41 @@ module _ (names : Names) where
       ∙ word_in-right 3 _ (tables_word tables) _ _ (Some tables) (tables_at-right names tables h.3 h.4)
       ∙ rw (end_in-right 4) refl))
 
-  table-right : (ws : List (List ℕ)) (table : ℕ) (schema : Schema) → SpellsTable names ws table schema → words_in names ws ≡ Ok (Ok (Some (events.Table table schema)))
-  unfolding table_in
-  table-right ws table schema h =
+  new_table-right : (verb : List ℕ) (ws : List (List ℕ)) (table : ℕ) (schema : Schema) → SpellsNewTable verb names ws table schema
+      → new_table_in names (table_word table ∷ schema.name ∷ scheme_word schema.scheme ∷ decimal schema.chunk ∷ map column_word schema.columns) ≡ Ok (Ok (table, schema))
+  unfolding new_table_in
+  new_table-right verb ws table schema h =
       let few : ltb 32 (length schema.columns) ≡ false = le-ltb _ _ h.3.few in
-      let made : made_table (Some table) schema ≡ Ok (events.Table table schema) = rw few refl in
-      rw h.0
-      (event_in-right names verbs.Table (table_word table ∷ schema.name ∷ scheme_word schema.scheme ∷ decimal schema.chunk ∷ map column_word schema.columns) (events.Table table schema)
-      (stored-right names _ h.6
-      ∙ in_time-right names _ h.5
-      ∙ word_in-right 1 _ (table_word table) _ _ (Some table) (new_table_at-right names table h.1 h.7)
+      let made : made_table (Some table) schema ≡ Ok (table, schema) = rw few refl in
+      word_in-right 1 _ (table_word table) _ _ (Some table) (new_table_at-right names table h.1 h.7)
       ∙ word_in-right 2 _ schema.name _ _ schema.name (new_name_at-right names schema.name h.4 h.8)
       ∙ word_in-right 3 _ (scheme_word schema.scheme) _ _ schema.scheme (scheme_at-right schema.scheme)
       ∙ word_in-right 4 _ (decimal schema.chunk) _ _ schema.chunk (chunk_at-right schema.chunk h.2)
-      ∙ rw (some_columns_in-right 5 schema.columns h.3.some h.3.names (distinct-new (names_of schema.columns) h.3.distinct) h.3.order) (ap Ok made)))
+      ∙ rw (some_columns_in-right 5 schema.columns h.3.some h.3.names (distinct-new (names_of schema.columns) h.3.distinct) h.3.order) (ap Ok made)
+
+  table-right : (ws : List (List ℕ)) (table : ℕ) (schema : Schema) → SpellsTable names ws table schema → words_in names ws ≡ Ok (Ok (Some (events.Table table schema)))
+  table-right ws table schema h =
+      let behind : List (List ℕ) = table_word table ∷ schema.name ∷ scheme_word schema.scheme ∷ decimal schema.chunk ∷ map column_word schema.columns in
+      let read : table_in names behind ≡ Ok (Ok (events.Table table schema)) = rw (new_table-right (codes "table") ws table schema h) refl in
+      rw h.0 (event_in-right names verbs.Table behind (events.Table table schema) (stored-right names _ h.6 ∙ in_time-right names _ h.5 ∙ read))
+
+  draft-right : (ws : List (List ℕ)) (table : ℕ) (schema : Schema) → SpellsDraft names ws table schema → words_in names ws ≡ Ok (Ok (Some (events.Draft table schema)))
+  draft-right ws table schema h =
+      let behind : List (List ℕ) = table_word table ∷ schema.name ∷ scheme_word schema.scheme ∷ decimal schema.chunk ∷ map column_word schema.columns in
+      let read : draft_in names behind ≡ Ok (Ok (events.Draft table schema)) = rw (new_table-right (codes "draft") ws table schema h) refl in
+      rw h.0 (event_in-right names verbs.Draft behind (events.Draft table schema) (stored-right names _ h.6 ∙ in_time-right names _ h.5 ∙ read))
 
   pub spelled : (ws : List (List ℕ)) (e : Event) → SpelledBy names ws e → words_in names ws ≡ Ok (Ok (Some e))
   spelled ws (events.Store store) h = store-right ws store h
   spelled ws (events.Gate gate) h = gate-right ws gate h
   spelled ws (events.Table table schema) h = table-right ws table schema h
-  spelled ws (events.Draft table schema) h = absurd h
+  spelled ws (events.Draft table schema) h = draft-right ws table schema h
   spelled ws (events.Client client gate tables) h = client-right ws client gate tables h
   spelled ws (events.Write client table row content) h = write-right ws client table row content h
   spelled ws (events.Edit client table row edit) h = edit-right ws client table row edit h
   spelled ws (events.Link client up) h = link-right ws client up h
-  spelled ws (events.Create node table) h = absurd h
-  spelled ws (events.Drop node table) h = absurd h
+  spelled ws (events.Create node table) h = create-right ws node table h
+  spelled ws (events.Drop node table) h = drop-right ws node table h
   spelled ws (events.Show client table row) h = show-right ws client table row h
   spelled ws (events.Sum client table row) h = sum-right ws client table row h
   spelled ws (events.Sync client table) h = sync-right ws client table h

@@ -6,11 +6,11 @@ use Rattle.script_text.specs.declared.verb.EditVerb.{EditVerb}
 use Rattle.script_text.specs.declared.verb.Verb.TheVariants as verbs
 use Rattle.script_text.specs.Names.{Names, columns_of}
 use Rattle.script_text.specs.Places.{table_at}
-use Rattle.script_text.specs.Reading.{store_in, gate_in, table_in, client_in, content_in, some_columns_in, write_in, client_row_in, show_in}
+use Rattle.script_text.specs.Reading.{store_in, gate_in, new_table_in, table_in, draft_in, create_in, drop_in, client_in, content_in, some_columns_in, write_in, client_row_in, show_in}
 use Rattle.script_text.specs.Reading.{begin_cr_in, conflicts_in, end_cr_in, choice_in, resolve_in, rule_in, resolve_all_in}
 use Rattle.script_text.specs.Reading.{sum_in, client_table_in, sync_in, pull_in, deliver_in, store_show_in, history_in, chunks_in}
 use Rattle.script_text.specs.Reading.{node_in, hold_in, free_in, work_in, work_all_in, start_in, crash_in, link_in, change_in, edit_in}
-use Rattle.script_text.specs.Grammar.{FirstFault, places_of, more_of, change_fault, columns_named, ChoiceFault, AllFault}
+use Rattle.script_text.specs.Grammar.{FirstFault, table_places, places_of, more_of, change_fault, columns_named, ChoiceFault, AllFault}
 use Rattle.script_text.proofs.ChoiceLemmas.{choice-err, choice-fault}
 use Rattle.script_text.proofs.RuleLemmas.{rule-err, rule-fault}
 use Rattle.script_text.proofs.EditLemmas.{change_in-err, change_in-fault}
@@ -41,14 +41,20 @@ module _ (names : Names) (ws : List (List ℕ)) (f : BadLine) where
       word_in-err _ _ _ (drop 3 (places_of names verbs.Client)) (more_of verbs.Client (columns_named names ws)) f b hb (λ vc c xc ic oc hc.
       end-err 4 _ c f hc)))
 
-  pub table-err : table_in names ws ≡ Err f → FirstFault 1 (places_of names verbs.Table) (more_of verbs.Table (columns_named names ws)) ws f
-  unfolding table_in
-  table-err h =
-      word_in-err _ _ _ (drop 1 (places_of names verbs.Table)) (more_of verbs.Table (columns_named names ws)) f ws h (λ va a xa ia oa ha.
-      word_in-err _ _ _ (drop 2 (places_of names verbs.Table)) (more_of verbs.Table (columns_named names ws)) f a ha (λ vb b xb ib ob hb.
-      word_in-err _ _ _ (drop 3 (places_of names verbs.Table)) (more_of verbs.Table (columns_named names ws)) f b hb (λ vc c xc ic oc hc.
-      word_in-err _ _ _ (drop 4 (places_of names verbs.Table)) (more_of verbs.Table (columns_named names ws)) f c hc (λ vd d xd id od hd.
+  new_table-err : new_table_in names ws ≡ Err f → FirstFault 1 (table_places names) (more_of verbs.Table (columns_named names ws)) ws f
+  unfolding new_table_in
+  new_table-err h =
+      word_in-err _ _ _ (drop 1 (table_places names)) (more_of verbs.Table (columns_named names ws)) f ws h (λ va a xa ia oa ha.
+      word_in-err _ _ _ (drop 2 (table_places names)) (more_of verbs.Table (columns_named names ws)) f a ha (λ vb b xb ib ob hb.
+      word_in-err _ _ _ (drop 3 (table_places names)) (more_of verbs.Table (columns_named names ws)) f b hb (λ vc c xc ic oc hc.
+      word_in-err _ _ _ (drop 4 (table_places names)) (more_of verbs.Table (columns_named names ws)) f c hc (λ vd d xd id od hd.
       some_columns-err f 5 d (bind-err (some_columns_in 5 d) _ f hd)))))
+
+  pub table-err : table_in names ws ≡ Err f → FirstFault 1 (places_of names verbs.Table) (more_of verbs.Table (columns_named names ws)) ws f
+  table-err h = new_table-err (bind-err (new_table_in names ws) _ f h)
+
+  pub draft-err : draft_in names ws ≡ Err f → FirstFault 1 (places_of names verbs.Draft) (more_of verbs.Draft (columns_named names ws)) ws f
+  draft-err h = new_table-err (bind-err (new_table_in names ws) _ f h)
 
   pub write-err : write_in names ws ≡ Err f → FirstFault 1 (places_of names verbs.Write) (more_of verbs.Write (columns_named names ws)) ws f
   unfolding write_in
@@ -97,6 +103,12 @@ module _ (names : Names) (ws : List (List ℕ)) (f : BadLine) where
 
   pub sum-err : sum_in names ws ≡ Err f → FirstFault 1 (places_of names verbs.Sum) (more_of verbs.Sum (columns_named names ws)) ws f
   sum-err h = client_row-err (bind-err (client_row_in names ws) _ f h)
+
+  pub create-err : create_in names ws ≡ Err f → FirstFault 1 (places_of names verbs.Create) (more_of verbs.Create (columns_named names ws)) ws f
+  create-err h = client_table-err (bind-err (client_table_in names ws) _ f h)
+
+  pub drop-err : drop_in names ws ≡ Err f → FirstFault 1 (places_of names verbs.Drop) (more_of verbs.Drop (columns_named names ws)) ws f
+  drop-err h = client_table-err (bind-err (client_table_in names ws) _ f h)
 
   pub sync-err : sync_in names ws ≡ Err f → FirstFault 1 (places_of names verbs.Sync) (more_of verbs.Sync (columns_named names ws)) ws f
   sync-err h = client_table-err (bind-err (client_table_in names ws) _ f h)
@@ -202,14 +214,20 @@ module _ (names : Names) (ws : List (List ℕ)) (f : BadLine) where
       word_in-fault _ _ _ (drop 3 (places_of names verbs.Client)) (more_of verbs.Client (columns_named names ws)) f b hb (λ vc c xc ic oc hc.
       end-fault 4 _ c f hc)))
 
-  pub table-fault : FirstFault 1 (places_of names verbs.Table) (more_of verbs.Table (columns_named names ws)) ws f → table_in names ws ≡ Err f
-  unfolding table_in
-  table-fault h =
-      word_in-fault _ _ _ (drop 1 (places_of names verbs.Table)) (more_of verbs.Table (columns_named names ws)) f ws h (λ va a xa ia oa ha.
-      word_in-fault _ _ _ (drop 2 (places_of names verbs.Table)) (more_of verbs.Table (columns_named names ws)) f a ha (λ vb b xb ib ob hb.
-      word_in-fault _ _ _ (drop 3 (places_of names verbs.Table)) (more_of verbs.Table (columns_named names ws)) f b hb (λ vc c xc ic oc hc.
-      word_in-fault _ _ _ (drop 4 (places_of names verbs.Table)) (more_of verbs.Table (columns_named names ws)) f c hc (λ vd d xd id od hd.
+  new_table-fault : FirstFault 1 (table_places names) (more_of verbs.Table (columns_named names ws)) ws f → new_table_in names ws ≡ Err f
+  unfolding new_table_in
+  new_table-fault h =
+      word_in-fault _ _ _ (drop 1 (table_places names)) (more_of verbs.Table (columns_named names ws)) f ws h (λ va a xa ia oa ha.
+      word_in-fault _ _ _ (drop 2 (table_places names)) (more_of verbs.Table (columns_named names ws)) f a ha (λ vb b xb ib ob hb.
+      word_in-fault _ _ _ (drop 3 (table_places names)) (more_of verbs.Table (columns_named names ws)) f b hb (λ vc c xc ic oc hc.
+      word_in-fault _ _ _ (drop 4 (table_places names)) (more_of verbs.Table (columns_named names ws)) f c hc (λ vd d xd id od hd.
       rw (some_columns-fault f 5 d hd) refl))))
+
+  pub table-fault : FirstFault 1 (places_of names verbs.Table) (more_of verbs.Table (columns_named names ws)) ws f → table_in names ws ≡ Err f
+  table-fault h = rw (new_table-fault h) refl
+
+  pub draft-fault : FirstFault 1 (places_of names verbs.Draft) (more_of verbs.Draft (columns_named names ws)) ws f → draft_in names ws ≡ Err f
+  draft-fault h = rw (new_table-fault h) refl
 
   pub write-fault : FirstFault 1 (places_of names verbs.Write) (more_of verbs.Write (columns_named names ws)) ws f → write_in names ws ≡ Err f
   unfolding write_in
@@ -258,6 +276,12 @@ module _ (names : Names) (ws : List (List ℕ)) (f : BadLine) where
 
   pub sum-fault : FirstFault 1 (places_of names verbs.Sum) (more_of verbs.Sum (columns_named names ws)) ws f → sum_in names ws ≡ Err f
   sum-fault h = rw (client_row-fault h) refl
+
+  pub create-fault : FirstFault 1 (places_of names verbs.Create) (more_of verbs.Create (columns_named names ws)) ws f → create_in names ws ≡ Err f
+  create-fault h = rw (client_table-fault h) refl
+
+  pub drop-fault : FirstFault 1 (places_of names verbs.Drop) (more_of verbs.Drop (columns_named names ws)) ws f → drop_in names ws ≡ Err f
+  drop-fault h = rw (client_table-fault h) refl
 
   pub sync-fault : FirstFault 1 (places_of names verbs.Sync) (more_of verbs.Sync (columns_named names ws)) ws f → sync_in names ws ≡ Err f
   sync-fault h = rw (client_table-fault h) refl

@@ -35,12 +35,15 @@ verb-some word verb e =
     picked verbs.Store verb word _
     (picked verbs.Gate verb word _
     (picked verbs.Table verb word _
+    (picked verbs.Draft verb word _
     (picked verbs.Client verb word _
     (picked verbs.Write verb word _
     (picked (verbs.Edit changes.Update) verb word _
     (picked (verbs.Edit changes.Patch) verb word _
     (picked (verbs.Edit changes.Delete) verb word _
     (picked verbs.Link verb word _
+    (picked verbs.Create verb word _
+    (picked verbs.Drop verb word _
     (picked verbs.Show verb word _
     (picked verbs.Sum verb word _
     (picked verbs.Sync verb word _
@@ -60,7 +63,7 @@ verb-some word verb e =
     (picked verbs.WorkAll verb word _
     (picked verbs.Crash verb word _
     (picked verbs.Start verb word _
-    (λ none. absurd cc))))))))))))))))))))))))))))
+    (λ none. absurd cc)))))))))))))))))))))))))))))))
     e
 
 pub verb-none : (word : List ℕ) → verb_of word ≡ None → (verb : Verb) → word ≢ name_of verb
@@ -69,62 +72,68 @@ verb-none word h verb =
     let h0 = skipped verbs.Store word _ h in
     let h1 = skipped verbs.Gate word _ h0.1 in
     let h2 = skipped verbs.Table word _ h1.1 in
-    let h3 = skipped verbs.Client word _ h2.1 in
-    let h4 = skipped verbs.Write word _ h3.1 in
-    let h5 = skipped (verbs.Edit changes.Update) word _ h4.1 in
-    let h6 = skipped (verbs.Edit changes.Patch) word _ h5.1 in
-    let h7 = skipped (verbs.Edit changes.Delete) word _ h6.1 in
-    let h8 = skipped verbs.Link word _ h7.1 in
-    let h9 = skipped verbs.Show word _ h8.1 in
-    let h10 = skipped verbs.Sum word _ h9.1 in
-    let h11 = skipped verbs.Sync word _ h10.1 in
-    let h12 = skipped verbs.Pull word _ h11.1 in
-    let h13 = skipped verbs.BeginCr word _ h12.1 in
-    let h14 = skipped verbs.Conflicts word _ h13.1 in
-    let h15 = skipped verbs.EndCr word _ h14.1 in
-    let h16 = skipped verbs.Resolve word _ h15.1 in
-    let h17 = skipped verbs.ResolveAll word _ h16.1 in
-    let h18 = skipped verbs.Deliver word _ h17.1 in
-    let h19 = skipped verbs.StoreShow word _ h18.1 in
-    let h20 = skipped verbs.History word _ h19.1 in
-    let h21 = skipped verbs.Chunks word _ h20.1 in
-    let h22 = skipped verbs.Hold word _ h21.1 in
-    let h23 = skipped verbs.Free word _ h22.1 in
-    let h24 = skipped verbs.Work word _ h23.1 in
-    let h25 = skipped verbs.WorkAll word _ h24.1 in
-    let h26 = skipped verbs.Crash word _ h25.1 in
-    let h27 = skipped verbs.Start word _ h26.1 in
+    let h3 = skipped verbs.Draft word _ h2.1 in
+    let h4 = skipped verbs.Client word _ h3.1 in
+    let h5 = skipped verbs.Write word _ h4.1 in
+    let h6 = skipped (verbs.Edit changes.Update) word _ h5.1 in
+    let h7 = skipped (verbs.Edit changes.Patch) word _ h6.1 in
+    let h8 = skipped (verbs.Edit changes.Delete) word _ h7.1 in
+    let h9 = skipped verbs.Link word _ h8.1 in
+    let h10 = skipped verbs.Create word _ h9.1 in
+    let h11 = skipped verbs.Drop word _ h10.1 in
+    let h12 = skipped verbs.Show word _ h11.1 in
+    let h13 = skipped verbs.Sum word _ h12.1 in
+    let h14 = skipped verbs.Sync word _ h13.1 in
+    let h15 = skipped verbs.Pull word _ h14.1 in
+    let h16 = skipped verbs.BeginCr word _ h15.1 in
+    let h17 = skipped verbs.Conflicts word _ h16.1 in
+    let h18 = skipped verbs.EndCr word _ h17.1 in
+    let h19 = skipped verbs.Resolve word _ h18.1 in
+    let h20 = skipped verbs.ResolveAll word _ h19.1 in
+    let h21 = skipped verbs.Deliver word _ h20.1 in
+    let h22 = skipped verbs.StoreShow word _ h21.1 in
+    let h23 = skipped verbs.History word _ h22.1 in
+    let h24 = skipped verbs.Chunks word _ h23.1 in
+    let h25 = skipped verbs.Hold word _ h24.1 in
+    let h26 = skipped verbs.Free word _ h25.1 in
+    let h27 = skipped verbs.Work word _ h26.1 in
+    let h28 = skipped verbs.WorkAll word _ h27.1 in
+    let h29 = skipped verbs.Crash word _ h28.1 in
+    let h30 = skipped verbs.Start word _ h29.1 in
     elim verb as (λ (v : Verb). word ≢ name_of v) [
       | verbs.Store ↦ h0.0
       | verbs.Gate ↦ h1.0
       | verbs.Table ↦ h2.0
-      | verbs.Client ↦ h3.0
-      | verbs.Write ↦ h4.0
+      | verbs.Draft ↦ h3.0
+      | verbs.Client ↦ h4.0
+      | verbs.Write ↦ h5.0
       | verbs.Edit change ↦ elim change as (λ (c : EditVerb). word ≢ edit_name c) [
-        | changes.Update ↦ h5.0
-        | changes.Patch ↦ h6.0
-        | changes.Delete ↦ h7.0
+        | changes.Update ↦ h6.0
+        | changes.Patch ↦ h7.0
+        | changes.Delete ↦ h8.0
       ]
-      | verbs.Link ↦ h8.0
-      | verbs.Show ↦ h9.0
-      | verbs.Sum ↦ h10.0
-      | verbs.Sync ↦ h11.0
-      | verbs.Pull ↦ h12.0
-      | verbs.BeginCr ↦ h13.0
-      | verbs.Conflicts ↦ h14.0
-      | verbs.EndCr ↦ h15.0
-      | verbs.Resolve ↦ h16.0
-      | verbs.ResolveAll ↦ h17.0
-      | verbs.Deliver ↦ h18.0
-      | verbs.StoreShow ↦ h19.0
-      | verbs.History ↦ h20.0
-      | verbs.Chunks ↦ h21.0
-      | verbs.Hold ↦ h22.0
-      | verbs.Free ↦ h23.0
-      | verbs.Work ↦ h24.0
-      | verbs.WorkAll ↦ h25.0
-      | verbs.Crash ↦ h26.0
-      | verbs.Start ↦ h27.0
+      | verbs.Link ↦ h9.0
+      | verbs.Create ↦ h10.0
+      | verbs.Drop ↦ h11.0
+      | verbs.Show ↦ h12.0
+      | verbs.Sum ↦ h13.0
+      | verbs.Sync ↦ h14.0
+      | verbs.Pull ↦ h15.0
+      | verbs.BeginCr ↦ h16.0
+      | verbs.Conflicts ↦ h17.0
+      | verbs.EndCr ↦ h18.0
+      | verbs.Resolve ↦ h19.0
+      | verbs.ResolveAll ↦ h20.0
+      | verbs.Deliver ↦ h21.0
+      | verbs.StoreShow ↦ h22.0
+      | verbs.History ↦ h23.0
+      | verbs.Chunks ↦ h24.0
+      | verbs.Hold ↦ h25.0
+      | verbs.Free ↦ h26.0
+      | verbs.Work ↦ h27.0
+      | verbs.WorkAll ↦ h28.0
+      | verbs.Crash ↦ h29.0
+      | verbs.Start ↦ h30.0
     ]
 
 pub verb-again : (verb : Verb) → verb_of (name_of verb) ≡ Some verb
@@ -132,12 +141,15 @@ unfolding verb_of
 verb-again verbs.Store = refl
 verb-again verbs.Gate = refl
 verb-again verbs.Table = refl
+verb-again verbs.Draft = refl
 verb-again verbs.Client = refl
 verb-again verbs.Write = refl
 verb-again (verbs.Edit changes.Update) = refl
 verb-again (verbs.Edit changes.Patch) = refl
 verb-again (verbs.Edit changes.Delete) = refl
 verb-again verbs.Link = refl
+verb-again verbs.Create = refl
+verb-again verbs.Drop = refl
 verb-again verbs.Show = refl
 verb-again verbs.Sum = refl
 verb-again verbs.Sync = refl

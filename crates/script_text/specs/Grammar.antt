@@ -117,15 +117,23 @@ scheme_word schemes.Strong = codes "strong"
 scheme_word schemes.Causal = codes "causal"
 scheme_word schemes.Eventual = codes "eventual"
 
--- `table T NAME SCHEME CHUNK COLUMN:KIND ..`
-abbrev pub SpellsTable : Names → List (List ℕ) → ℕ → Schema → Type 0
-SpellsTable names words table schema =
-    (words ≡ codes "table" ∷ table_word table ∷ schema.name ∷ scheme_word schema.scheme ∷ decimal schema.chunk
+-- `VERB T NAME SCHEME CHUNK COLUMN:KIND ..`
+abbrev pub SpellsNewTable : List ℕ → Names → List (List ℕ) → ℕ → Schema → Type 0
+SpellsNewTable verb names words table schema =
+    (words ≡ verb ∷ table_word table ∷ schema.name ∷ scheme_word schema.scheme ∷ decimal schema.chunk
     ∷ map column_word schema.columns)
     × IsUpTo 64 table × IsChunk schema.chunk
     × AreColumns schema.columns × (is_name schema.name ≡ true)
     × IsEarly names × (has_no_store names ≡ false) × (has_table names table ≡ false)
     × (has_name names schema.name ≡ false)
+
+-- `table T NAME SCHEME CHUNK COLUMN:KIND ..`
+abbrev pub SpellsTable : Names → List (List ℕ) → ℕ → Schema → Type 0
+SpellsTable = SpellsNewTable (codes "table")
+
+-- `draft T NAME SCHEME CHUNK COLUMN:KIND ..`
+abbrev pub SpellsDraft : Names → List (List ℕ) → ℕ → Schema → Type 0
+SpellsDraft = SpellsNewTable (codes "draft")
 
 -- TABLES: names joined by commas, or `-` for none
 abbrev pub tables_word : List ℕ → List ℕ
@@ -232,6 +240,20 @@ SpellsSum = SpellsClientRow (codes "sum")
 abbrev pub SpellsClientTable : List ℕ → Names → List (List ℕ) → ℕ → ℕ → Type 0
 SpellsClientTable verb names words client table =
     (words ≡ verb ∷ client_word client ∷ table_word table ∷ []) × IsClient names client × IsTable names table
+
+-- `VERB C T`, of the client among the nodes
+abbrev pub SpellsByClient : List ℕ → Names → List (List ℕ) → Node → ℕ → Type 0
+SpellsByClient verb names words (nodes.Client client) table = SpellsClientTable verb names words client table
+SpellsByClient verb names words (nodes.Store store) table = ⊥
+SpellsByClient verb names words (nodes.Gate gate) table = ⊥
+
+-- `create C T`
+abbrev pub SpellsCreate : Names → List (List ℕ) → Node → ℕ → Type 0
+SpellsCreate = SpellsByClient (codes "create")
+
+-- `drop C T`
+abbrev pub SpellsDrop : Names → List (List ℕ) → Node → ℕ → Type 0
+SpellsDrop = SpellsByClient (codes "drop")
 
 -- `sync C T`
 abbrev pub SpellsSync : Names → List (List ℕ) → ℕ → ℕ → Type 0
@@ -346,18 +368,17 @@ SpellsCrash names words node calls pick =
     (words ≡ codes "crash" ∷ node_word node ∷ decimal calls ∷ decimal pick ∷ []) × IsNode names node
     × (calls ≤ 4) × (pick < 2 ^ 64)
 
--- no line spells that a table is drafted, made or dropped yet
 abbrev pub SpelledBy : Names → List (List ℕ) → Event → Type 0
 SpelledBy names words (events.Store store) = SpellsStore names words store
 SpelledBy names words (events.Gate gate) = SpellsGate names words gate
 SpelledBy names words (events.Table table schema) = SpellsTable names words table schema
-SpelledBy names words (events.Draft table schema) = ⊥
+SpelledBy names words (events.Draft table schema) = SpellsDraft names words table schema
 SpelledBy names words (events.Client client gate tables) = SpellsClient names words client gate tables
 SpelledBy names words (events.Write client table row content) = SpellsWrite names words client table row content
 SpelledBy names words (events.Edit client table row edit) = SpellsEdited names words client table row edit
 SpelledBy names words (events.Link client up) = SpellsLink names words client up
-SpelledBy names words (events.Create node table) = ⊥
-SpelledBy names words (events.Drop node table) = ⊥
+SpelledBy names words (events.Create node table) = SpellsCreate names words node table
+SpelledBy names words (events.Drop node table) = SpellsDrop names words node table
 SpelledBy names words (events.Show client table row) = SpellsShow names words client table row
 SpelledBy names words (events.Sum client table row) = SpellsSum names words client table row
 SpelledBy names words (events.Sync client table) = SpellsSync names words client table
@@ -447,14 +468,19 @@ FirstFault at (place ∷ places) more (word ∷ words) fault =
 abbrev pub FirstFaultOf : List (List ℕ → Option Code) → Rest
 FirstFaultOf places at words fault = FirstFault at places NoMore words fault
 
+-- the places of a line that declares a table, behind its verb
+abbrev pub table_places : Names → List (List ℕ → Option Code)
+table_places names =
+    (λ word. fault_of (new_table_at names word)) ∷ (λ word. fault_of (new_name_at names word))
+    ∷ (λ word. fault_of (scheme_at word))
+    ∷ (λ word. fault_of (chunk_at word)) ∷ []
+
 -- the places of a line that is built, behind its verb
 abbrev pub places_of : Names → Verb → List (List ℕ → Option Code)
 places_of names verbs.Store = (λ word. fault_of (new_store_at names word)) ∷ []
 places_of names verbs.Gate = (λ word. fault_of (new_gate_at names word)) ∷ []
-places_of names verbs.Table =
-    (λ word. fault_of (new_table_at names word)) ∷ (λ word. fault_of (new_name_at names word))
-    ∷ (λ word. fault_of (scheme_at word))
-    ∷ (λ word. fault_of (chunk_at word)) ∷ []
+places_of names verbs.Table = table_places names
+places_of names verbs.Draft = table_places names
 places_of names verbs.Client =
     (λ word. fault_of (new_client_at names word)) ∷ (λ word. fault_of (gate_at names word))
     ∷ (λ word. fault_of (tables_at names word)) ∷ []
@@ -466,6 +492,9 @@ places_of names (verbs.Edit verb) =
     ∷ (λ word. fault_of (row_at word)) ∷ []
 places_of names verbs.Link =
     (λ word. fault_of (client_at names word)) ∷ (λ word. fault_of (direction_at word)) ∷ []
+places_of names verbs.Create =
+    (λ word. fault_of (client_at names word)) ∷ (λ word. fault_of (table_at names word)) ∷ []
+places_of names verbs.Drop = (λ word. fault_of (client_at names word)) ∷ (λ word. fault_of (table_at names word)) ∷ []
 places_of names verbs.Show =
     (λ word. fault_of (client_at names word)) ∷ (λ word. fault_of (table_at names word))
     ∷ (λ word. fault_of (row_at word)) ∷ []
@@ -527,10 +556,13 @@ abbrev pub more_of : Verb → List Column → Rest
 more_of verbs.Store columns = NoMore
 more_of verbs.Gate columns = NoMore
 more_of verbs.Table columns = OneOrMore ColumnsFault
+more_of verbs.Draft columns = OneOrMore ColumnsFault
 more_of verbs.Client columns = NoMore
 more_of verbs.Write columns = OneOrMore ValuesFault
 more_of (verbs.Edit verb) columns = change_fault verb columns
 more_of verbs.Link columns = NoMore
+more_of verbs.Create columns = NoMore
+more_of verbs.Drop columns = NoMore
 more_of verbs.Show columns = NoMore
 more_of verbs.Sum columns = NoMore
 more_of verbs.Sync columns = NoMore
@@ -551,16 +583,20 @@ more_of verbs.WorkAll columns = NoMore
 more_of verbs.Crash columns = NoMore
 more_of verbs.Start columns = NoMore
 
--- a fault of the verb at its place: a `table` without a Store, and a declaration behind an event
+-- a fault of the verb at its place: a table that is declared without a Store, and a declaration behind an event
 abbrev pub verb_fault : Names → Verb → Option Code
 verb_fault names verbs.Store = if names.started then Some Late else None
 verb_fault names verbs.Gate = if names.started then Some Late else None
 verb_fault names verbs.Table = if has_no_store names then Some NotDeclared
     else (if names.started then Some Late else None)
+verb_fault names verbs.Draft = if has_no_store names then Some NotDeclared
+    else (if names.started then Some Late else None)
 verb_fault names verbs.Client = if names.started then Some Late else None
 verb_fault names verbs.Write = None
 verb_fault names (verbs.Edit verb) = None
 verb_fault names verbs.Link = None
+verb_fault names verbs.Create = None
+verb_fault names verbs.Drop = None
 verb_fault names verbs.Show = None
 verb_fault names verbs.Sum = None
 verb_fault names verbs.Sync = None
@@ -618,6 +654,7 @@ abbrev pub limit_of : Verb → List (List ℕ) → Option ℕ
 limit_of verbs.Store (store ∷ words) = passed 7 (store_number store)
 limit_of verbs.Gate (gate ∷ words) = passed 6 (gate_number gate)
 limit_of verbs.Table (table ∷ words) = or_else (passed 4 (table_number table)) (columns_passed (drop 3 words))
+limit_of verbs.Draft (table ∷ words) = or_else (passed 4 (table_number table)) (columns_passed (drop 3 words))
 limit_of verbs.Client (client ∷ gate ∷ tables ∷ words) =
     or_else (passed 5 (client_number client))
     (or_else (passed 6 (gate_number gate)) (tables_passed (parts_at tables)))

@@ -3,6 +3,7 @@ use Rattle.std.specs.Prelude.{◌≡◌, ℕ, ◌+◌, nat_lt, List, [], ◌∷�
 use Rattle.std.specs.Prelude.{if◌then◌else◌}
 use Rattle.std.specs.Str.{is_utf8, bytes_eq}
 use Rattle.stab_base.specs.declared.node.Node.{Node}
+use Rattle.stab_base.specs.declared.node.Node.TheVariants as nodes
 use Rattle.row_value.specs.declared.schema.Column.{Column}
 use Rattle.row_value.specs.declared.content.Content.{Content}
 use Rattle.row_value.specs.declared.content.Content.TheVariants.{Gone, Row}
@@ -103,18 +104,29 @@ unfoldable pub some_columns_in : ℕ → List (List ℕ) → Result (List Column
 some_columns_in at words = next_in at words >>= λ a. columns_in at [] words
 
 -- a table, of up to 32 columns
-abbrev pub made_table : Option ℕ → Schema → Result Event ℕ
+abbrev pub made_table : Option ℕ → Schema → Result (ℕ × Schema) ℕ
 made_table None schema = Err 4
-made_table (Some table) schema = if nat_lt 32 (length schema.columns) then Err 8 else Ok (events.Table table schema)
+made_table (Some table) schema = if nat_lt 32 (length schema.columns) then Err 8 else Ok (table, schema)
 
-unfoldable pub table_in : Names → List (List ℕ) → Result (Result Event ℕ) BadLine
-table_in names words =
+unfoldable pub new_table_in : Names → List (List ℕ) → Result (Result (ℕ × Schema) ℕ) BadLine
+new_table_in names words =
     word_in 1 (new_table_at names) words (λ table a.
     word_in 2 (new_name_at names) a (λ name b.
     word_in 3 scheme_at b (λ scheme c.
     word_in 4 chunk_at c (λ chunk d.
     some_columns_in 5 d >>= λ columns.
     Ok (made_table table (record { name = name; scheme = scheme; chunk = chunk; columns = columns }))))))
+
+-- the event of a table
+abbrev pub declared_by : (ℕ → Schema → Event) → Result (ℕ × Schema) ℕ → Result Event ℕ
+declared_by event (Ok made) = Ok (event made.0 made.1)
+declared_by event (Err limit) = Err limit
+
+abbrev pub table_in : Names → List (List ℕ) → Result (Result Event ℕ) BadLine
+table_in names words = new_table_in names words >>= λ made. Ok (declared_by events.Table made)
+
+abbrev pub draft_in : Names → List (List ℕ) → Result (Result Event ℕ) BadLine
+draft_in names words = new_table_in names words >>= λ made. Ok (declared_by events.Draft made)
 
 -- a client that opens tables
 abbrev pub made_client : Option ℕ → Option (Option ℕ) → Option (List ℕ) → Result Event ℕ
@@ -150,6 +162,12 @@ client_table_in names words =
     word_in 1 (client_at names) words (λ client a.
     word_in 2 (table_at names) a (λ table b.
     end_in 3 b >>= λ done. Ok (client, table)))
+
+abbrev pub create_in : Names → List (List ℕ) → Result Event BadLine
+create_in names words = client_table_in names words >>= λ p. Ok (events.Create (nodes.Client p.0) p.1)
+
+abbrev pub drop_in : Names → List (List ℕ) → Result Event BadLine
+drop_in names words = client_table_in names words >>= λ p. Ok (events.Drop (nodes.Client p.0) p.1)
 
 abbrev pub sync_in : Names → List (List ℕ) → Result Event BadLine
 sync_in names words = client_table_in names words >>= λ p. Ok (events.Sync p.0 p.1)
@@ -345,10 +363,14 @@ built_in names verbs.Store words = in_time names (store_in names words)
 built_in names verbs.Gate words = in_time names (gate_in names words)
 built_in names verbs.Table words = if has_no_store names then Err (bad NotDeclared 0)
     else in_time names (table_in names words)
+built_in names verbs.Draft words = if has_no_store names then Err (bad NotDeclared 0)
+    else in_time names (draft_in names words)
 built_in names verbs.Client words = in_time names (client_in names words)
 built_in names verbs.Write words = unlimited (write_in names words)
 built_in names (verbs.Edit verb) words = unlimited (edit_in names verb words)
 built_in names verbs.Link words = unlimited (link_in names words)
+built_in names verbs.Create words = unlimited (create_in names words)
+built_in names verbs.Drop words = unlimited (drop_in names words)
 built_in names verbs.Show words = unlimited (show_in names words)
 built_in names verbs.Sum words = unlimited (sum_in names words)
 built_in names verbs.Sync words = unlimited (sync_in names words)

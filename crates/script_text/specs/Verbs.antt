@@ -18,10 +18,13 @@ abbrev pub name_of : Verb → List ℕ
 name_of verbs.Store = codes "store"
 name_of verbs.Gate = codes "gate"
 name_of verbs.Table = codes "table"
+name_of verbs.Draft = codes "draft"
 name_of verbs.Client = codes "client"
 name_of verbs.Write = codes "write"
 name_of (verbs.Edit verb) = edit_name verb
 name_of verbs.Link = codes "link"
+name_of verbs.Create = codes "create"
+name_of verbs.Drop = codes "drop"
 name_of verbs.Show = codes "show"
 name_of verbs.Sum = codes "sum"
 name_of verbs.Sync = codes "sync"
@@ -47,12 +50,15 @@ verb_of word =
     if bytes_eq word (codes "store") then Some verbs.Store
     else if bytes_eq word (codes "gate") then Some verbs.Gate
     else if bytes_eq word (codes "table") then Some verbs.Table
+    else if bytes_eq word (codes "draft") then Some verbs.Draft
     else if bytes_eq word (codes "client") then Some verbs.Client
     else if bytes_eq word (codes "write") then Some verbs.Write
     else if bytes_eq word (codes "update") then Some (verbs.Edit changes.Update)
     else if bytes_eq word (codes "patch") then Some (verbs.Edit changes.Patch)
     else if bytes_eq word (codes "delete") then Some (verbs.Edit changes.Delete)
     else if bytes_eq word (codes "link") then Some verbs.Link
+    else if bytes_eq word (codes "create") then Some verbs.Create
+    else if bytes_eq word (codes "drop") then Some verbs.Drop
     else if bytes_eq word (codes "show") then Some verbs.Show
     else if bytes_eq word (codes "sum") then Some verbs.Sum
     else if bytes_eq word (codes "sync") then Some verbs.Sync
@@ -77,8 +83,7 @@ verb_of word =
 -- lines that set things up that aren't built
 unfoldable pub is_setting_verb : List ℕ → Bool
 is_setting_verb word =
-    is_among word (codes "draft" ∷ codes "create" ∷ codes "drop" ∷ codes "subscribe"
-    ∷ codes "unsubscribe" ∷ codes "writesync" ∷ [])
+    is_among word (codes "subscribe" ∷ codes "unsubscribe" ∷ codes "writesync" ∷ [])
 
 -- lines of rows that aren't built
 unfoldable pub is_row_verb : List ℕ → Bool

@@ -28,4 +28,6 @@ mod conflict_tests;
 #[cfg(test)]
 mod edit_tests;
 #[cfg(test)]
+mod table_tests;
+#[cfg(test)]
 mod tests;

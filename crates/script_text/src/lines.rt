@@ -2,8 +2,8 @@ ghost use Rattle.std.specs.Prelude.{◌≡◌};
 ghost use Rattle.script_words.specs.Words.{texts};
 ghost use Rattle.script_text.specs.Places.{tables_at};
 ghost use Rattle.script_text.specs.Reading.{Reads, Makes, Tells, placed, made_table, made_client, store_in, gate_in};
-ghost use Rattle.script_text.specs.Reading.{table_in, client_in, write_in, client_row_in, show_in, sum_in};
-ghost use Rattle.script_text.specs.Reading.{client_table_in};
+ghost use Rattle.script_text.specs.Reading.{new_table_in, table_in, draft_in, client_in, write_in};
+ghost use Rattle.script_text.specs.Reading.{client_row_in, show_in, sum_in, client_table_in, create_in, drop_in};
 ghost use Rattle.script_text.specs.Reading.{sync_in, pull_in, begin_cr_in, conflicts_in, end_cr_in};
 ghost use Rattle.script_text.specs.Reading.{deliver_in, store_show_in, history_in, chunks_in, built_in, event_in};
 
@@ -26,6 +26,7 @@ use crate::resolving::{resolve_all_line, resolve_line};
 use crate::verb::{Verb, is_unbuilt, verb_of};
 use row_value::{Bytes, RowId, Schema};
 use script_words::{Code, ValueFault};
+use stab_base::Node;
 use std::alloc::Global;
 use table_model::{Event, Tables};
 
@@ -39,6 +40,22 @@ fn client_table(names: &Declared, words: &[&str]) -> Result<(u32, u32), BadLine>
     let table = placed(2, table_at(names, word))?;
     end(rest, 3)?;
     Ok((client, table))
+}
+
+fn create_line(names: &Declared, words: &[&str]) -> Result<Event, BadLine>
+    ensures { result ≡ create_in names.now (texts words.now) }
+{
+    let (client, table) = client_table(names, words)?;
+    let node = Node::Client(client);
+    Ok(Event::Create { node, table })
+}
+
+fn drop_line(names: &Declared, words: &[&str]) -> Result<Event, BadLine>
+    ensures { result ≡ drop_in names.now (texts words.now) }
+{
+    let (client, table) = client_table(names, words)?;
+    let node = Node::Client(client);
+    Ok(Event::Drop { node, table })
 }
 
 fn sync_line(names: &Declared, words: &[&str]) -> Result<Event, BadLine>
@@ -172,7 +189,7 @@ fn gate_line(names: &Declared, words: &[&str]) -> Result<Event, ScriptFault>
     }
 }
 
-fn table_event(table: Option<u32>, schema: Schema) -> Result<Event, ScriptFault>
+fn within_limits(table: Option<u32>, schema: Schema) -> Result<(u32, Schema), ScriptFault>
     ensures { Makes result (made_table table schema) }
 {
     let Some(table) = table else {
@@ -181,12 +198,12 @@ fn table_event(table: Option<u32>, schema: Schema) -> Result<Event, ScriptFault>
     if schema.columns.len() > MOST_COLUMNS {
         return Err(ScriptFault::Limit(COLUMNS));
     }
-    Ok(Event::Table { table, schema })
+    Ok((table, schema))
 }
 
-#[tactic(auto, unfolding(crate::specs::Reading::table_in, crate::specs::Reading::word_in))]
-fn table_line(alloc: Global, names: &Declared, words: &[&str]) -> Result<Event, ScriptFault>
-    ensures { Tells result (table_in names.now (texts words.now)) }
+#[tactic(auto, unfolding(crate::specs::Reading::new_table_in, crate::specs::Reading::word_in))]
+fn new_table(alloc: Global, names: &Declared, words: &[&str]) -> Result<(u32, Schema), ScriptFault>
+    ensures { Tells result (new_table_in names.now (texts words.now)) }
 {
     let (word, rest) = next_word(words, 1)?;
     let table = placed(1, new_table_at(names, word))?;
@@ -198,7 +215,7 @@ fn table_line(alloc: Global, names: &Declared, words: &[&str]) -> Result<Event, 
     let chunk = placed(4, chunk_at(word))?;
     let columns = some_columns(alloc, rest, 5)?;
     let name = Bytes::from_slice(alloc, name.as_bytes())?;
-    table_event(
+    within_limits(
         table,
         Schema {
             name,
@@ -207,6 +224,20 @@ fn table_line(alloc: Global, names: &Declared, words: &[&str]) -> Result<Event, 
             columns,
         },
     )
+}
+
+fn table_line(alloc: Global, names: &Declared, words: &[&str]) -> Result<Event, ScriptFault>
+    ensures { Tells result (table_in names.now (texts words.now)) }
+{
+    let (table, schema) = new_table(alloc, names, words)?;
+    Ok(Event::Table { table, schema })
+}
+
+fn draft_line(alloc: Global, names: &Declared, words: &[&str]) -> Result<Event, ScriptFault>
+    ensures { Tells result (draft_in names.now (texts words.now)) }
+{
+    let (table, schema) = new_table(alloc, names, words)?;
+    Ok(Event::Draft { table, schema })
 }
 
 fn tables_placed(
@@ -292,6 +323,8 @@ fn built_line(
         Verb::Write => write_line(alloc, names, words),
         Verb::Edit(verb) => edit_line(alloc, names, verb, words),
         Verb::Link => Ok(link_line(names, words)?),
+        Verb::Create => Ok(create_line(names, words)?),
+        Verb::Drop => Ok(drop_line(names, words)?),
         Verb::Show => Ok(show_line(names, words)?),
         Verb::Sum => Ok(sum_line(names, words)?),
         Verb::Sync => Ok(sync_line(names, words)?),
@@ -311,11 +344,12 @@ fn built_line(
         Verb::WorkAll => Ok(work_all_line(names, words)?),
         Verb::Crash => Ok(crash_line(names, words)?),
         Verb::Start => Ok(start_line(names, words)?),
-        Verb::Table if names.has_no_store() => Err(bad(Code::NotDeclared, 0).into()),
+        Verb::Table | Verb::Draft if names.has_no_store() => Err(bad(Code::NotDeclared, 0).into()),
         _ if names.has_started() => Err(bad(Code::Late, 0).into()),
         Verb::Store => store_line(names, words),
         Verb::Gate => gate_line(names, words),
         Verb::Table => table_line(alloc, names, words),
+        Verb::Draft => draft_line(alloc, names, words),
         Verb::Client => client_line(alloc, names, words),
     }
 }

@@ -40,7 +40,7 @@ pub(crate) fn judged(alloc: Global, line: &[u8], names: &Declared) -> Result<(u3
 }
 
 // The number of the limit that a line passes; 0 for none.
-fn passed(alloc: Global, line: &[u8], names: &Declared) -> Result<u32, Fail> {
+pub(crate) fn passed(alloc: Global, line: &[u8], names: &Declared) -> Result<u32, Fail> {
     match parse_line(alloc, line, names) {
         Ok(_) => Ok(0),
         Err(ScriptFault::Limit(limit)) => Ok(limit),
@@ -64,7 +64,7 @@ pub(crate) fn check(
     Ok(())
 }
 
-const AT_THE_START: [(&str, u32, usize); 67] = [
+const AT_THE_START: [(&str, u32, usize); 68] = [
     ("", 0, 0),
     ("   ", 0, 0),
     ("# a remark", 0, 0),
@@ -82,7 +82,8 @@ const AT_THE_START: [(&str, u32, usize); 67] = [
     ("gate G0", 5, 1),
     ("gate G01", 5, 1),
     ("gate S1", 5, 1),
-    ("draft T1 notes causal 64 n:int", 12, 0),
+    ("draft T1 notes causal 64 n:int", 8, 0),
+    ("subscribe C1 T1 1 0", 12, 0),
     ("resolve_all C1 T1 mine", 8, 1),
     ("settle", 12, 0),
     ("  store   S1  ", 0, 0),
@@ -514,7 +515,7 @@ const BEHIND_AN_EVENT: [(&str, u32, usize); 8] = [
     ("gate", 11, 0),
     ("table", 11, 0),
     ("client", 11, 0),
-    ("draft", 12, 0),
+    ("draft", 11, 0),
     ("deliver 0", 0, 0),
     ("# a remark", 0, 0),
     (WRITE, 0, 0),
@@ -530,6 +531,8 @@ fn refusals_behind_an_event(rt: HostRuntime) -> Result<(), Fail> {
 fn each_event_ends_the_declarations(rt: HostRuntime) -> Result<(), Fail> {
     let alloc = rt.alloc();
     for event in [
+        "create C1 T1",
+        "drop C1 T1",
         "sync C1 T1",
         "pull C1 T1",
         "deliver 7",
@@ -555,6 +558,7 @@ fn each_event_ends_the_declarations(rt: HostRuntime) -> Result<(), Fail> {
     }
     let names = behind(alloc, &["deliver 7"])?;
     assert_eq!(rt; judged(alloc, b"table", &names)?, (8, 0));
+    assert_eq!(rt; judged(alloc, b"draft", &names)?, (8, 0));
     assert_eq!(rt; judged(alloc, b"store", &names)?, (11, 0));
     Ok(())
 }

@@ -15,10 +15,13 @@ pub(crate) enum Verb {
     Store,
     Gate,
     Table,
+    Draft,
     Client,
     Write,
     Edit(EditVerb),
     Link,
+    Create,
+    Drop,
     Show,
     Sum,
     Sync,
@@ -48,12 +51,15 @@ pub(crate) fn verb_of(word: &str) -> Option<Verb>
         "store" => Some(Verb::Store),
         "gate" => Some(Verb::Gate),
         "table" => Some(Verb::Table),
+        "draft" => Some(Verb::Draft),
         "client" => Some(Verb::Client),
         "write" => Some(Verb::Write),
         "update" => Some(Verb::Edit(EditVerb::Update)),
         "patch" => Some(Verb::Edit(EditVerb::Patch)),
         "delete" => Some(Verb::Edit(EditVerb::Delete)),
         "link" => Some(Verb::Link),
+        "create" => Some(Verb::Create),
+        "drop" => Some(Verb::Drop),
         "show" => Some(Verb::Show),
         "sum" => Some(Verb::Sum),
         "sync" => Some(Verb::Sync),
@@ -81,10 +87,7 @@ pub(crate) fn verb_of(word: &str) -> Option<Verb>
 fn is_setting_verb(word: &str) -> bool
     ensures { result ≡ is_setting_verb word.now }
 {
-    matches!(
-        word,
-        "draft" | "create" | "drop" | "subscribe" | "unsubscribe" | "writesync"
-    )
+    matches!(word, "subscribe" | "unsubscribe" | "writesync")
 }
 
 #[tactic(auto, unfolding(crate::specs::Verbs::is_row_verb))]

@@ -77,6 +77,50 @@ fn messages_are_sent(rt: HostRuntime) -> Result<(), Fail> {
     Ok(())
 }
 
+const NAMES: [(MessageName, &str); 17] = [
+    (MessageName::RegisterDevice, "sent 7 C1 S2 registerDevice"),
+    (MessageName::CreateTable, "sent 7 C1 S2 createTable"),
+    (MessageName::DropTable, "sent 7 C1 S2 dropTable"),
+    (MessageName::SubscribeTable, "sent 7 C1 S2 subscribeTable"),
+    (
+        MessageName::UnsubscribeTable,
+        "sent 7 C1 S2 unsubscribeTable",
+    ),
+    (MessageName::Notify, "sent 7 C1 S2 notify"),
+    (MessageName::ObjectFragment, "sent 7 C1 S2 objectFragment"),
+    (MessageName::PullRequest, "sent 7 C1 S2 pullRequest"),
+    (MessageName::PullResponse, "sent 7 C1 S2 pullResponse"),
+    (MessageName::SyncRequest, "sent 7 C1 S2 syncRequest"),
+    (MessageName::SyncResponse, "sent 7 C1 S2 syncResponse"),
+    (MessageName::TornRowRequest, "sent 7 C1 S2 tornRowRequest"),
+    (MessageName::TornRowResponse, "sent 7 C1 S2 tornRowResponse"),
+    (
+        MessageName::OperationResponse,
+        "sent 7 C1 S2 operationResponse",
+    ),
+    (
+        MessageName::SaveClientSubscription,
+        "sent 7 C1 S2 saveClientSubscription",
+    ),
+    (
+        MessageName::RestoreClientSubscriptions,
+        "sent 7 C1 S2 restoreClientSubscriptions",
+    ),
+    (
+        MessageName::TableVersionUpdateNotification,
+        "sent 7 C1 S2 tableVersionUpdateNotification",
+    ),
+];
+
+#[test]
+fn messages_have_their_names(rt: HostRuntime) -> Result<(), Fail> {
+    for (name, text) in NAMES {
+        let line = sent(7, Node::Client(1), Node::Store(2), name);
+        check(&rt, rt.alloc(), &line, text)?;
+    }
+    Ok(())
+}
+
 fn entry() -> Entry {
     Entry {
         row: row(2),
@@ -132,6 +176,20 @@ fn facts_have_their_fields_in_order(rt: HostRuntime) -> Result<(), Fail> {
                 table: 3,
             }),
             "opened C2 T3",
+        ),
+        (
+            Fact::Client(ClientFact::Dropped {
+                client: 64,
+                table: 1,
+            }),
+            "dropped C64 T1",
+        ),
+        (
+            Fact::Redone(ClientFact::Opened {
+                client: 64,
+                table: 1,
+            }),
+            "redone opened C64 T1",
         ),
         (
             Fact::Redone(ClientFact::Dropped {

@@ -10,6 +10,7 @@ from .chunks import is_kept, names_in, placed_pieces
 from .messages import Fragment, Pull, Pulled, Request, Response, TornPull, TornPulled, has_kept, is_complete
 from .program import main, transcript
 from .slots import EMPTY, local_names, version_seen
+from .store import DRAFT, DROPPED, LIVE
 from .values import GONE, cut
 from .words import content_of
 from .world import World

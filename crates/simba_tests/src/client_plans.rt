@@ -29,7 +29,7 @@ pub(crate) struct PlanCase {
     pub(crate) done: &'static str,
 }
 
-pub(crate) const CASES: [PlanCase; 12] = [
+pub(crate) const CASES: [PlanCase; 14] = [
     // A first write of an object of two chunks.
     PlanCase {
         script: "store S1\n\
@@ -649,5 +649,86 @@ pub(crate) const CASES: [PlanCase; 12] = [
         ok\n\
         sent 7 S1 C1 pullResponse\n\
         ok\n",
+    },
+    // A table that was made, which the client opens.
+    PlanCase {
+        script: "store S1\n\
+        draft T1 photos eventual 64 o:object\n\
+        client C1 - -\n\
+        create C1 T1\n\
+        deliver 0\n\
+        hold C1\n\
+        deliver 1\n",
+        told: "ok\n\
+        sent 0 C1 S1 createTable\n\
+        ok\n\
+        made T1\n\
+        sent 1 S1 C1 operationResponse\n\
+        ok\n\
+        ok\n",
+        client: "C1",
+        chunks: 0,
+        row: false,
+        table: true,
+        drops: 0,
+        facts: ["opened C1 T1\n", ""],
+        sent: "",
+        torn: "",
+        show: "show C1 T1 00000000-0000-4000-8000-000000000001\n",
+        shows: ["no 18\n", "no 27\n"],
+        tail: "free C1\n\
+        deliver 1\n\
+        write C1 T1 00000000-0000-4000-8000-000000000001 h:\n",
+        undone: "ok\n\
+        ok\n\
+        opened C1 T1\n\
+        ok 1\n\
+        wrote C1 1 T1 00000000-0000-4000-8000-000000000001 0 h:\n",
+        begun: "",
+        done: "ok\n\
+        ok\n\
+        ok 1\n\
+        wrote C1 1 T1 00000000-0000-4000-8000-000000000001 0 h:\n",
+    },
+    // A table that was dropped, which the client closes.
+    PlanCase {
+        script: "store S1\n\
+        table T1 photos eventual 64 o:object\n\
+        client C1 - T1\n\
+        write C1 T1 00000000-0000-4000-8000-000000000001 h:00\n\
+        drop C1 T1\n\
+        deliver 0\n\
+        hold C1\n\
+        deliver 1\n",
+        told: "ok 1\n\
+        wrote C1 1 T1 00000000-0000-4000-8000-000000000001 0 h:00\n\
+        ok\n\
+        sent 0 C1 S1 dropTable\n\
+        ok\n\
+        unmade T1\n\
+        sent 1 S1 C1 operationResponse\n\
+        ok\n\
+        ok\n",
+        client: "C1",
+        chunks: 0,
+        row: false,
+        table: true,
+        drops: 0,
+        facts: ["dropped C1 T1\n", ""],
+        sent: "",
+        torn: "",
+        show: "show C1 T1 00000000-0000-4000-8000-000000000001\n",
+        shows: ["ok mine 1 h:00\n", "no 18\n"],
+        tail: "free C1\n\
+        deliver 1\n\
+        sync C1 T1\n",
+        undone: "ok\n\
+        ok\n\
+        dropped C1 T1\n\
+        no 18\n",
+        begun: "",
+        done: "ok\n\
+        ok\n\
+        no 18\n",
     },
 ];

@@ -26,6 +26,8 @@ mod runs;
 #[cfg(test)]
 mod stops;
 #[cfg(test)]
+mod tables;
+#[cfg(test)]
 mod tests;
 #[cfg(test)]
 mod values;

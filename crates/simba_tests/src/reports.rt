@@ -41,8 +41,23 @@ deliver 5
 history T1
 ";
 
+const STATES: &str = "\
+store S1
+draft T6 plans causal 64 n:int
+draft T5 notes strong 64 n:int
+client C1 - -
+create C1 T5
+deliver 0
+deliver 1
+write C1 T5 00000000-0000-4000-8000-000000000001 1
+deliver 2
+drop C1 T5
+deliver 4
+deliver 5
+";
+
 // A script, how its report ends, and what is written.
-const REPORTS: [(&str, u8, &str); 6] = [
+const REPORTS: [(&str, u8, &str); 7] = [
     ("", 0, "{\"lines\":0,\"tables\":[]}\n"),
     (
         "store S1\ntable T64 notes causal 64 n:int\n# no event\nclient C1 - T64\n",
@@ -61,6 +76,13 @@ const REPORTS: [(&str, u8, &str); 6] = [
 {\"name\":\"a-1\",\"rows\":2,\"scheme\":\"eventual\",\"table\":1,\"version\":3},\
 {\"name\":\"b_2\",\"rows\":0,\"scheme\":\"causal\",\"table\":2,\"version\":0},\
 {\"name\":\"c\",\"rows\":0,\"scheme\":\"strong\",\"table\":3,\"version\":0}]}\n",
+    ),
+    (
+        STATES,
+        0,
+        "{\"lines\":20,\"tables\":[\
+{\"name\":\"notes\",\"rows\":1,\"scheme\":\"strong\",\"table\":5,\"version\":1},\
+{\"name\":\"plans\",\"rows\":0,\"scheme\":\"causal\",\"table\":6,\"version\":0}]}\n",
     ),
     ("store S1\nshow C1 T1 x\n", 3, "stop 3 2 8\n"),
     ("store S17\n", 7, "stop 7 1 7\n"),

@@ -203,7 +203,7 @@ module _ (a : Asked) (w : World) (fine : AreFine a w) (event : Event) where
 
   -- ---- tables that are made and dropped
 
-  puts_go : (number table : ℕ) (put : SidePut) (lucks : List Luck) → StepGoes a w event (puts_beside w number table put lucks)
+  pub puts_go : (number table : ℕ) (put : SidePut) (lucks : List Luck) → StepGoes a w event (puts_beside w number table put lucks)
   puts_go number table put lucks = down_goes (nodes.Store number) _ (hosted_goes table (store.Place put) lucks (hosted_by w number table))
 
   opens_go : (c table : ℕ) (shape : Shape) (lucks : List Luck) (o : Option Schema) → StepGoes a w event (opens w c table shape lucks o)

@@ -421,6 +421,9 @@ module _ (c t : ℕ) (w : World) (is : IsClosed c t w) where
   step_is (events.Link d up) lucks = kept_is _ (linked_kept d up (client_at w d))
   step_is (events.Create node table) lucks = kept_is _ (created_kept table lucks.shape lucks.calls node)
   step_is (events.Drop node table) lucks = kept_is _ (dropped_kept table lucks.shape lucks.calls node)
+  step_is (events.Save number table d terms) lucks = kept_is _ (puts_kept number table (store.PutSub d terms) lucks.calls)
+  step_is (events.Ask d table) lucks = kept_is _ (call_kept d (client.Next table [] []) lucks.shape lucks.calls tt (client_at w d) refl)
+  step_is (events.Net it) lucks = kept_is _ kept
   step_is (events.Show d table row) lucks = kept_is _ (call_kept d (client.Show table row) lucks.shape lucks.calls tt (client_at w d) refl)
   step_is (events.Sum d table row) lucks = kept_is _ (call_kept d (client.Sum table row) lucks.shape lucks.calls tt (client_at w d) refl)
   step_is (events.Sync d table) lucks = kept_is _ (call_kept d (client.Sync table) lucks.shape lucks.calls tt (client_at w d) refl)

@@ -410,6 +410,9 @@ module _ (c : ℕ) (w : World) where
     step_tells (events.Link d up) lucks = side_tells (linked w d up (client_at w d)).world _ (linked_same d up (client_at w d))
     step_tells (events.Create node table) lucks = created_tells table lucks.shape lucks.calls node
     step_tells (events.Drop node table) lucks = dropped_tells table lucks.shape lucks.calls node
+    step_tells (events.Save number table d terms) lucks = puts_tell number table (store.PutSub d terms) lucks.calls _
+    step_tells (events.Ask d table) lucks = call_tells d (client.Next table [] []) lucks.shape lucks.calls tt (client_at w d) refl
+    step_tells (events.Net it) lucks = same_tells w refl
     step_tells (events.Show d table row) lucks = call_tells d (client.Show table row) lucks.shape lucks.calls tt (client_at w d) refl
     step_tells (events.Sum d table row) lucks = call_tells d (client.Sum table row) lucks.shape lucks.calls tt (client_at w d) refl
     step_tells (events.Sync d table) lucks = call_tells d (client.Sync table) lucks.shape lucks.calls tt (client_at w d) refl

@@ -16,6 +16,7 @@ use Rattle.step_tables.specs.Facts as facts
 use Rattle.step_tables.specs.Messages.{Message, Luck, table_of}
 use Rattle.step_tables.specs.Messages as messages
 use Rattle.step_tables.specs.ClientMoves as client
+use Rattle.step_tables.specs.StoreMoves.{PutSub}
 use Rattle.step_tables.specs.ClientMoves.{Client, ClientTask, ClientMove, Shape, client_step}
 use Rattle.step_tables.proofs.Lists.{same_row-refl}
 use Rattle.world_tables.specs.World.{World, Hosted, Moved, WorldStep, Lucks, start, hosted_at, client_at, tasks_in, lines_of, and_then, with_store}
@@ -32,7 +33,7 @@ use Rattle.asked_laws.proofs.Stores.{ArePlainWrites}
 use Rattle.asked_laws.proofs.Worlds.{AreFine, ClientsFine, put_table, Goes}
 use Rattle.asked_laws.proofs.Each.{Resolves, IsResolving, each_stays, IsIdleNumber, all_idle}
 use Rattle.asked_laws.proofs.Events.{or_too, StepGoes, told_goes, later, answered_goes, down_goes, unread_goes, called_goes, call_goes, delivered_goes, shows_go, chunks_go, history_goes, link_goes, held_goes, worked_goes, all_worked_goes, crashed_goes, started_goes, conflicts_go}
-use Rattle.asked_laws.proofs.Events.{created_goes, dropped_goes}
+use Rattle.asked_laws.proofs.Events.{puts_go, created_goes, dropped_goes}
 
 -- ---- what is resolved
 
@@ -153,6 +154,9 @@ module _ (a : Asked) (w : World) (fine : AreFine a w) where
   step_goes (events.Link c up) lucks = link_goes a w fine (events.Link c up) c up (client_at w c)
   step_goes (events.Create node table) lucks = created_goes a w fine (events.Create node table) table lucks.shape lucks.calls node
   step_goes (events.Drop node table) lucks = dropped_goes a w fine (events.Drop node table) table lucks.shape lucks.calls node
+  step_goes (events.Save number table d terms) lucks = puts_go a w fine (events.Save number table d terms) number table (PutSub d terms) lucks.calls
+  step_goes (events.Ask d table) lucks = call_goes a w fine (events.Ask d table) d (client.Next table [] []) lucks.shape lucks.calls (λ node final lets. tt) (client_at w d) refl
+  step_goes (events.Net it) lucks = answered_goes a w fine (events.Net it) facts.Done
   step_goes (events.Show c table row) lucks = call_goes a w fine (events.Show c table row) c (client.Show table row) lucks.shape lucks.calls (λ node final lets. tt) (client_at w c) refl
   step_goes (events.Sum c table row) lucks = call_goes a w fine (events.Sum c table row) c (client.Sum table row) lucks.shape lucks.calls (λ node final lets. tt) (client_at w c) refl
   step_goes (events.Sync c table) lucks = call_goes a w fine (events.Sync c table) c (client.Sync table) lucks.shape lucks.calls (λ node final lets. tt) (client_at w c) refl

@@ -106,7 +106,7 @@ told_plain : (table : ℕ) (put : SidePut) → ArePlainFacts (store.told_beside 
 told_plain table (store.PutState states.Draft) = tt
 told_plain table (store.PutState states.Live) = (tt, tt)
 told_plain table (store.PutState states.Dropped) = (tt, tt)
-told_plain table (store.PutSub client terms) = tt
+told_plain table (store.PutSub client terms) = (tt, tt)
 
 placed_plain : (table : ℕ) (d : StoreDisk) (agenda : Option (List StoreTask)) (put : SidePut) → ArePlainWrites (tasks_in agenda) → IsPlainStep (store.placed table d agenda put)
 placed_plain table d None put p = (tt, tt)

@@ -43,6 +43,7 @@ is_of c sent (events.Resolve client table row seen choice) = client == c
 is_of c sent (events.ResolveAll client table by) = client == c
 is_of c sent (events.Create node table) = is_client c node
 is_of c sent (events.Drop node table) = is_client c node
+is_of c sent (events.Ask client table) = client == c
 is_of c sent (events.Deliver packet) = goes_to c (slice_get sent packet)
 is_of c sent (events.Work node) = is_client c node
 is_of c sent (events.WorkAll node) = is_client c node

@@ -370,6 +370,9 @@ module _ (P : World → Type 0) (beside : (w : World) (holds downs cuts : List N
     step_keeps (events.Link c b) plain lucks = links c b (client_at w c)
     step_keeps (events.Create node table) plain lucks = creates table lucks.shape lucks.calls node
     step_keeps (events.Drop node table) plain lucks = drops table lucks.shape lucks.calls node
+    step_keeps (events.Save number table d terms) plain lucks = puts number table (store.PutSub d terms) lucks.calls
+    step_keeps (events.Ask d table) plain lucks = calls w d (client.Next table [] []) lucks.shape lucks.calls tt p
+    step_keeps (events.Net it) plain lucks = p
     step_keeps (events.Show c table row) plain lucks = calls w c (client.Show table row) lucks.shape lucks.calls tt p
     step_keeps (events.Sum c table row) plain lucks = calls w c (client.Sum table row) lucks.shape lucks.calls tt p
     step_keeps (events.Sync c table) plain lucks = calls w c (client.Sync table) lucks.shape lucks.calls tt p

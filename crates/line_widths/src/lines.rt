@@ -193,8 +193,12 @@ fn know_fact(fact: &Fact)
             let _store: u32 = *store;
             let _table: u32 = *table;
         }
-        Fact::Made { table } | Fact::Unmade { table } => {
+        Fact::Made { table } | Fact::Unmade { table } | Fact::Saved { table } => {
             let _table: u32 = *table;
+        }
+        Fact::Notified { client, tables } => {
+            let _client: u32 = *client;
+            let _tables: u64 = *tables;
         }
     }
 }

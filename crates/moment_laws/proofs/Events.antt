@@ -339,6 +339,9 @@ module _ (P : ℕ → Hosted → Type 0)
   step_all w (events.Link c up) lucks all first f = linked_all w c up all (client_at w c)
   step_all w (events.Create node table) lucks all first f = created_all w table lucks.shape lucks.calls all node
   step_all w (events.Drop node table) lucks all first f = dropped_all w table lucks.shape lucks.calls all node
+  step_all w (events.Save number table d terms) lucks all first f = puts_all w number table (store.PutSub d terms) lucks.calls all
+  step_all w (events.Ask d table) lucks all first f = call_all w d (client.Next table [] []) lucks.shape lucks.calls all (client_at w d)
+  step_all w (events.Net it) lucks all first f = all
   step_all w (events.Show c table row) lucks all first f = call_all w c (client.Show table row) lucks.shape lucks.calls all (client_at w c)
   step_all w (events.Sum c table row) lucks all first f = call_all w c (client.Sum table row) lucks.shape lucks.calls all (client_at w c)
   step_all w (events.Sync c table) lucks all first f = call_all w c (client.Sync table) lucks.shape lucks.calls all (client_at w c)

@@ -520,7 +520,7 @@ beside_plain : (table : ℕ) (put : SidePut) → ArePlainFacts (store.told_besid
 beside_plain table (store.PutState states.Draft) = tt
 beside_plain table (store.PutState states.Live) = (tt, tt)
 beside_plain table (store.PutState states.Dropped) = (tt, tt)
-beside_plain table (store.PutSub client terms) = tt
+beside_plain table (store.PutSub client terms) = (tt, tt)
 
 placed_plain : (table : ℕ) (d : StoreDisk) (agenda : Option (List StoreTask)) (put : SidePut) → HasPlainWrites agenda → IsPlainMove (store.placed table d agenda put)
 placed_plain table d None put p = still_plain d None _ tt

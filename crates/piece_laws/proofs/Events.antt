@@ -435,6 +435,9 @@ module _ (size : ℕ → ℕ) where
     step_named (events.Link c up) lucks f = linked_named c up (client_at w c)
     step_named (events.Create node table) lucks f = created_named table lucks.shape lucks.calls node
     step_named (events.Drop node table) lucks f = dropped_named table lucks.shape lucks.calls node
+    step_named (events.Save number table d terms) lucks f = beside_named number table (store.PutSub d terms) lucks.calls
+    step_named (events.Ask d table) lucks f = call_named w d (client.Next table [] []) lucks.shape lucks.calls k (λ node at. tt) (client_at w d)
+    step_named (events.Net it) lucks f = k
     step_named (events.Show c table row) lucks f = call_named w c (client.Show table row) lucks.shape lucks.calls k (λ node at. tt) (client_at w c)
     step_named (events.Sum c table row) lucks f = call_named w c (client.Sum table row) lucks.shape lucks.calls k (λ node at. tt) (client_at w c)
     step_named (events.Sync c table) lucks f = call_named w c (client.Sync table) lucks.shape lucks.calls k (quiet_takes c) (client_at w c)

@@ -316,6 +316,9 @@ module _ (names : Names) where
   spelled ws (events.Link client up) h = link-right ws client up h
   spelled ws (events.Create node table) h = create-right ws node table h
   spelled ws (events.Drop node table) h = drop-right ws node table h
+  spelled ws (events.Save store table client terms) h = absurd h
+  spelled ws (events.Ask client table) h = absurd h
+  spelled ws (events.Net it) h = absurd h
   spelled ws (events.Show client table row) h = show-right ws client table row h
   spelled ws (events.Sum client table row) h = sum-right ws client table row h
   spelled ws (events.Sync client table) h = sync-right ws client table h

@@ -54,6 +54,9 @@ with_event n (events.Edit client table row edit) = record n { started = true }
 with_event n (events.Link client up) = record n { started = true }
 with_event n (events.Create node table) = record n { started = true }
 with_event n (events.Drop node table) = record n { started = true }
+with_event n (events.Save store table client terms) = record n { started = true }
+with_event n (events.Ask client table) = record n { started = true }
+with_event n (events.Net it) = record n { started = true }
 with_event n (events.Show client table row) = record n { started = true }
 with_event n (events.Sum client table row) = record n { started = true }
 with_event n (events.Sync client table) = record n { started = true }

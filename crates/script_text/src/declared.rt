@@ -183,6 +183,9 @@ impl Declared {
             | Event::Link { .. }
             | Event::Create { .. }
             | Event::Drop { .. }
+            | Event::Save { .. }
+            | Event::Ask { .. }
+            | Event::Net(_)
             | Event::Show { .. }
             | Event::Sum { .. }
             | Event::Sync { .. }

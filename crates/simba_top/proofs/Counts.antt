@@ -86,6 +86,7 @@ module _ (run : List Happening) (few : length run ≤ most) (plans : ℕ) (begun
   none_spent (events.ResolveAll client table by) spent = numbers_left client table spent
   none_spent (events.Create node table) spent = none_at node spent
   none_spent (events.Drop node table) spent = none_at node spent
+  none_spent (events.Ask client table) spent = number_left client spent
   none_spent (events.Deliver packet) spent =
       ⊎_elim version_left (λ (number : (c : ℕ) × SpendsNumber (suc (suc plans)) (world_from world.start run) c). number_left number.0 number.1) spent
   none_spent other spent = spent

@@ -40,6 +40,9 @@ fn row_in(event: &Event) -> Option<(TableNo, &RowId)>
         | Event::Link { .. }
         | Event::Create { .. }
         | Event::Drop { .. }
+        | Event::Save { .. }
+        | Event::Ask { .. }
+        | Event::Net(_)
         | Event::Sync { .. }
         | Event::Pull { .. }
         | Event::BeginCr { .. }

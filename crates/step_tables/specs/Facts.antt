@@ -27,7 +27,8 @@ pub data ClientFact : Type 0 where
 
 -- what nodes tell. A start tells again (`Redone`) what the plan tells that it finds unfinished, or from which row of
 -- the Store a plan was cut short before its commit (`Torn`); a Store's start tells that the pending entry was accepted
--- (`Forward`) or wasn't (`Back`). A Store makes a table live (`Made`), or drops it (`Unmade`)
+-- (`Forward`) or wasn't (`Back`). A Store makes a table live (`Made`), or drops it (`Unmade`), or has kept a client's
+-- subscription (`Saved`); a client is told that tables have changed (`Notified`)
 pub data Fact : Type 0 where
   Client : (fact : ClientFact) → Fact
   Redone : (fact : ClientFact) → Fact
@@ -37,6 +38,8 @@ pub data Fact : Type 0 where
   StoreRecovered : (store table : ℕ) → Fact
   Made : (table : ℕ) → Fact
   Unmade : (table : ℕ) → Fact
+  Saved : (table : ℕ) → Fact
+  Notified : (client tables : ℕ) → Fact
   ClientRecovered : (client : ℕ) → Fact
   Torn : (client table : ℕ) → (row : List ℕ) → Fact
   Sent : (packet : ℕ) → (from to : Node) → (name : MessageName) → Fact

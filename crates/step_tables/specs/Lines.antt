@@ -78,6 +78,8 @@ fact_of (told.Back table version) = facts.Back table version
 fact_of (told.StoreRecovered store table) = facts.StoreRecovered store table
 fact_of (told.Made table) = facts.Made table
 fact_of (told.Unmade table) = facts.Unmade table
+fact_of (told.Saved table) = facts.Saved table
+fact_of (told.Notified client tables) = facts.Notified client tables
 
 abbrev pub line_of : TextLine → facts.Line
 line_of (lines.Answer answer) = facts.AnswerLine (answer_of answer)

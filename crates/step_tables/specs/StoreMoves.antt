@@ -24,14 +24,13 @@ use Rattle.step_tables.specs.Messages.{Request, Response, Pull, Pair, Header, Pu
 use Rattle.step_tables.specs.Messages.{SyncRequest, SyncResponse, PullRequest, PullResponse, TornPull, TornPulled}
 use Rattle.step_tables.specs.Messages.{TornRowRequest, TornRowResponse}
 use Rattle.step_tables.specs.Messages as messages
+use Rattle.table_model.specs.declared.event.SubTerms.{SubTerms}
 
 -- ---- state
 
 -- a client's subscription: the gateway that the client came by, and how often it is told, in ticks
-pub record Terms : Type 0 where
-  pub gate : ℕ
-  pub period : ℕ
-  pub tolerance : ℕ
+abbrev pub Terms : Type 0
+Terms = SubTerms
 
 -- what the devices stand for: each update whose row write landed, the entry that is open in the log, the chunks that
 -- are there and that no row names, whether the table is live, and the subscriptions by their clients
@@ -356,12 +355,12 @@ version_at d other = version_of d.pending
 
 -- ---- what is put beside the rows; a table at work takes nothing on
 
--- a table that becomes live, or is dropped, is told of
+-- a table that becomes live, or is dropped, is told of, and so is a subscription that is kept
 abbrev pub told_beside : ℕ → SidePut → List Fact
 told_beside table (PutState states.Draft) = []
 told_beside table (PutState states.Live) = facts.Made table ∷ []
 told_beside table (PutState states.Dropped) = facts.Unmade table ∷ []
-told_beside table (PutSub client terms) = []
+told_beside table (PutSub client terms) = facts.Saved table ∷ []
 
 abbrev pub beside_task : ℕ → SidePut → StoreTask
 beside_task table put = record { change = PutBeside put; facts = told_beside table put; sends = [] }

@@ -424,7 +424,7 @@ module _ (g : Scheme) (table : ℕ) (K : Known) where
     tells_beside (PutState states.Draft) = refl
     tells_beside (PutState states.Live) = (h, refl, refl)
     tells_beside (PutState states.Dropped) = (h, refl, refl)
-    tells_beside (PutSub client terms) = refl
+    tells_beside (PutSub client terms) = (h, refl, refl)
 
     told_put : (d : StoreDisk) (put : SidePut) → IsTold h d → IsTold h (put_beside d put)
     told_put d (PutState state) k = record { items = k.items; open_entry = k.open_entry }

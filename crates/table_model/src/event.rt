@@ -6,6 +6,41 @@ use stab_base::Node;
 /// The tables that a client opens, in the order in which it names them.
 pub type Tables = Sequence<TableNo>;
 
+/// The gateway by which a client subscribed, and how often it is told, in ticks.
+#[derive(Debug, Clone, Copy, PartialEq, Eq)]
+pub struct SubTerms {
+    pub gate: GateNo,
+    pub period: u32,
+    pub tolerance: u32,
+}
+
+/// An event that only a world with gateways knows.
+#[derive(Debug, Clone, Copy, PartialEq, Eq)]
+pub enum NetEvent {
+    /// The client asks to be told of changes of a table: after how many ticks, and how many more it may take.
+    Subscribe {
+        client: ClientNo,
+        table: TableNo,
+        period: u32,
+        tolerance: u32,
+    },
+    /// The client asks to be told of changes of a table no more.
+    Unsubscribe {
+        client: ClientNo,
+        table: TableNo,
+    },
+    /// From now on the client sends what it wrote in a table after so many ticks, or never by itself where the period
+    /// is 0.
+    WriteSync {
+        client: ClientNo,
+        table: TableNo,
+        period: u32,
+        tolerance: u32,
+    },
+    /// Time passes by one tick, at each gateway and each client.
+    Tick,
+}
+
 /// One line of a script. The first five are declarations.
 #[derive(Debug, Drop)]
 pub enum Event {
@@ -64,6 +99,22 @@ pub enum Event {
         node: Node,
         table: TableNo,
     },
+    /// The table's Store keeps a client's subscription, or that it has none. Only the worlds that know no message which
+    /// says so have it.
+    Save {
+        store: StoreNo,
+        table: TableNo,
+        client: ClientNo,
+        terms: Option<SubTerms>,
+    },
+    /// The client asks for the next change of a table, whatever rows of it are torn. Only the worlds that know no
+    /// message which makes it do so have it.
+    Ask {
+        client: ClientNo,
+        table: TableNo,
+    },
+    /// What only a world with gateways knows.
+    Net(NetEvent),
     /// The client shows a row.
     Show {
         client: ClientNo,

@@ -13,7 +13,7 @@ mod table_state;
 
 pub use allowed::entry_allowed;
 pub use entry::{Entry, History, current};
-pub use event::{Event, Tables};
+pub use event::{Event, NetEvent, SubTerms, Tables};
 pub use line::{
     Answer, ClientFact, Fact, Facts, Refusal, RowPair, RowPairs, Shown, TextLine, Write,
 };

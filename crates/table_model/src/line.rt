@@ -234,6 +234,15 @@ pub enum Fact {
     Unmade {
         table: TableNo,
     },
+    /// A Store has kept a client's subscription to the table, or that it has none.
+    Saved {
+        table: TableNo,
+    },
+    /// The client was told that tables have changed, that of number N by the bit of weight 2^(N - 1).
+    Notified {
+        client: ClientNo,
+        tables: u64,
+    },
 }
 
 /// Facts in the order in which they came.

@@ -46,6 +46,8 @@ fact_words (facts.Back table version) = codes "back" ∷ (codes "T" ++ decimal t
 fact_words (facts.StoreRecovered store table) = codes "recovered" ∷ (codes "S" ++ decimal store) ∷ (codes "T" ++ decimal table) ∷ []
 fact_words (facts.Made table) = codes "made" ∷ (codes "T" ++ decimal table) ∷ []
 fact_words (facts.Unmade table) = codes "unmade" ∷ (codes "T" ++ decimal table) ∷ []
+fact_words (facts.Saved table) = codes "saved" ∷ (codes "T" ++ decimal table) ∷ []
+fact_words (facts.Notified client tables) = codes "notified" ∷ (codes "C" ++ decimal client) ∷ decimal tables ∷ []
 
 outcome_led : (client number table : ℕ) (row : List ℕ) (version : ℕ)
     → outcome_text client number table row version ≡ led 32 (outcome_words client number table row version)
@@ -74,6 +76,8 @@ fact_led (facts.Back table version) = simp append-nil
 fact_led (facts.StoreRecovered store table) = simp append-nil
 fact_led (facts.Made table) = simp append-nil
 fact_led (facts.Unmade table) = simp append-nil
+fact_led (facts.Saved table) = simp append-nil
+fact_led (facts.Notified client tables) = simp append-nil
 
 outcome_above : (client number table : ℕ) (row : List ℕ) (version : ℕ) → HasOutcomeText client number table row version
     → AllByRecursion (IsAbove 32) (outcome_words client number table row version)
@@ -102,6 +106,8 @@ fact_above (facts.Back table version) h = search (rules, decimal_above)
 fact_above (facts.StoreRecovered store table) h = search (rules, decimal_above)
 fact_above (facts.Made table) h = search (rules, decimal_above)
 fact_above (facts.Unmade table) h = search (rules, decimal_above)
+fact_above (facts.Saved table) h = search (rules, decimal_above)
+fact_above (facts.Notified client tables) h = search (rules, decimal_above)
 
 client_fact_number : ClientFact → ℕ
 client_fact_number (changes.Wrote write) = 0
@@ -192,13 +198,16 @@ fact_number (facts.Back table version) = 7
 fact_number (facts.StoreRecovered store table) = 4
 fact_number (facts.Made table) = 8
 fact_number (facts.Unmade table) = 9
+fact_number (facts.Saved table) = 10
+fact_number (facts.Notified client tables) = 11
 
 fact_in : List ℕ → ℕ
 fact_in word =
     cond (bytes_eq word (codes "sent")) 0 (cond (bytes_eq word (codes "redone")) 2 (cond (bytes_eq word (codes "torn")) 3
     (cond (bytes_eq word (codes "recovered")) 4 (cond (bytes_eq word (codes "accepted")) 5
     (cond (bytes_eq word (codes "forward")) 6 (cond (bytes_eq word (codes "back")) 7
-    (cond (bytes_eq word (codes "made")) 8 (cond (bytes_eq word (codes "unmade")) 9 1))))))))
+    (cond (bytes_eq word (codes "made")) 8 (cond (bytes_eq word (codes "unmade")) 9
+    (cond (bytes_eq word (codes "saved")) 10 (cond (bytes_eq word (codes "notified")) 11 1))))))))))
 
 fact_read : (fact : Fact) → fact_in (first_word (fact_words fact)) ≡ fact_number fact
 unfolding fact_in fact_number
@@ -221,6 +230,8 @@ fact_read (facts.Back table version) = refl
 fact_read (facts.StoreRecovered store table) = refl
 fact_read (facts.Made table) = refl
 fact_read (facts.Unmade table) = refl
+fact_read (facts.Saved table) = refl
+fact_read (facts.Notified client tables) = refl
 
 pub fact_same : (a b : Fact) → HasFactText a → HasFactText b → fact_words a ≡ fact_words b → a ≡ b
 unfolding fact_number
@@ -245,6 +256,9 @@ fact_same (facts.StoreRecovered s t) (facts.StoreRecovered s_2 t_2) p q e =
     cc (decimal_injective s s_2 (omega (arith, p)) (omega (arith, q)) (cc), decimal_injective t t_2 (omega (arith, p)) (omega (arith, q)) (cc))
 fact_same (facts.Made t) (facts.Made t_2) p q e = ap facts.Made (decimal_injective t t_2 (omega (arith, p)) (omega (arith, q)) (cc))
 fact_same (facts.Unmade t) (facts.Unmade t_2) p q e = ap facts.Unmade (decimal_injective t t_2 (omega (arith, p)) (omega (arith, q)) (cc))
+fact_same (facts.Saved t) (facts.Saved t_2) p q e = ap facts.Saved (decimal_injective t t_2 (omega (arith, p)) (omega (arith, q)) (cc))
+fact_same (facts.Notified c t) (facts.Notified c_2 t_2) p q e =
+    cc (decimal_injective c c_2 (omega (arith, p)) (omega (arith, q)) (cc), decimal_injective t t_2 p.1 q.1 (cc))
 fact_same a b p q e =
     let same : fact_number a ≡ fact_number b = sym (fact_read a) ∙ ap (λ words. fact_in (first_word words)) e ∙ fact_read b in
     absurd (omega (arith, same))

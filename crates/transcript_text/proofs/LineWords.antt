@@ -630,6 +630,8 @@ fact_kind (facts.Back table version) = refl
 fact_kind (facts.StoreRecovered store table) = refl
 fact_kind (facts.Made table) = refl
 fact_kind (facts.Unmade table) = refl
+fact_kind (facts.Saved table) = refl
+fact_kind (facts.Notified client tables) = refl
 
 line_kind : (line : TextLine) → kind_in (first_word (words_of line)) ≡ kind_of line
 unfolding kind_in kind_of

@@ -171,6 +171,8 @@ HasFactText (facts.Back table version) = (table < 2 ^ 32) × (version < 2 ^ 64)
 HasFactText (facts.StoreRecovered store table) = (store < 2 ^ 32) × (table < 2 ^ 32)
 HasFactText (facts.Made table) = table < 2 ^ 32
 HasFactText (facts.Unmade table) = table < 2 ^ 32
+HasFactText (facts.Saved table) = table < 2 ^ 32
+HasFactText (facts.Notified client tables) = (client < 2 ^ 32) × (tables < 2 ^ 64)
 
 abbrev pub HasText : TextLine → Type 0
 HasText (lines.Answer answer) = HasAnswerText answer

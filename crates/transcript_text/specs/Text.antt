@@ -214,6 +214,9 @@ fact_text (facts.StoreRecovered store table) =
     codes "recovered S" ++ (decimal store ++ (codes " T" ++ decimal table))
 fact_text (facts.Made table) = codes "made T" ++ decimal table
 fact_text (facts.Unmade table) = codes "unmade T" ++ decimal table
+fact_text (facts.Saved table) = codes "saved T" ++ decimal table
+fact_text (facts.Notified client tables) =
+    codes "notified C" ++ (decimal client ++ (codes " " ++ decimal tables))
 
 abbrev pub text_of : TextLine → List ℕ
 text_of (lines.Answer answer) = answer_text answer

@@ -502,6 +502,8 @@ fn put_fact(alloc: Global, out: &mut String, fact: &Fact) -> Result<(), AllocErr
         Fact::StoreRecovered { store, table } => put_recovered(out, *store, *table),
         Fact::Made { table } => write!(out, "made T{table}"),
         Fact::Unmade { table } => write!(out, "unmade T{table}"),
+        Fact::Saved { table } => write!(out, "saved T{table}"),
+        Fact::Notified { client, tables } => write!(out, "notified C{client} {tables}"),
     }
 }
 

@@ -170,6 +170,14 @@ fn facts_have_their_fields_in_order(rt: HostRuntime) -> Result<(), Fail> {
         ),
         (Fact::Made { table: 3 }, "made T3"),
         (Fact::Unmade { table: 12 }, "unmade T12"),
+        (Fact::Saved { table: 64 }, "saved T64"),
+        (
+            Fact::Notified {
+                client: 2,
+                tables: 9223372036854775809,
+            },
+            "notified C2 9223372036854775809",
+        ),
         (
             Fact::Client(ClientFact::Opened {
                 client: 2,

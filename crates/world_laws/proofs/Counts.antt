@@ -1094,6 +1094,9 @@ module _ (n m : ℕ) (w : World) (few : AreFew n m w) where
   step_few (events.ResolveAll c table by) lucks = resolve_all_event c table by lucks.shape lucks.shapes lucks.calls (other_lucks lucks.calls)
   step_few (events.Create node table) lucks = created_few table lucks.shape lucks.calls node
   step_few (events.Drop node table) lucks = dropped_few table lucks.shape lucks.calls node
+  step_few (events.Save number table d terms) lucks = puts_few number table (store.PutSub d terms) lucks.calls
+  step_few (events.Ask d table) lucks = next_event d table [] [] lucks.shape lucks.calls
+  step_few (events.Net it) lucks = after
   step_few (events.Deliver packet) lucks = delivered_few lucks.shape lucks.calls (slice_get w.packets packet)
   step_few (events.StoreShow table row) lucks = shows_few table row lucks.calls (hosted_at w table)
   step_few (events.History table) lucks = history_few table (hosted_at w table)

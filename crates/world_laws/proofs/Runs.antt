@@ -15,6 +15,7 @@ use Rattle.row_value.specs.declared.schema.Scheme.{Scheme}
 use Rattle.table_model.specs.declared.entry.Entry.{Entry}
 use Rattle.table_model.specs.declared.event.Event.{Event}
 use Rattle.table_model.specs.declared.event.Event.TheVariants as events
+use Rattle.table_model.specs.declared.event.NetEvent.{NetEvent}
 use Rattle.table_model.specs.declared.table_state.TableState.{TableState}
 use Rattle.table_model.specs.declared.table_state.TableState.TheVariants as states
 use Rattle.row_edits.specs.declared.change.Edit.{Edit}
@@ -1018,6 +1019,27 @@ module _ (client_law : ClientLaws) (client_grows : ClientGrows) (lapsed_grows : 
         answered_sound w s k (events.Drop (nodes.Gate gate) table) facts.Done (λ lines a. a) tt (dropped_good (nodes.Gate gate) table facts.Done tt)
         (dropped_good (nodes.Gate gate) table (facts.Refuses facts.NoDevice) tt)
 
+    -- ---- a subscription is kept, a client asks, or a world above does what no node has a part in
+
+    saved_good : (number table c : ℕ) (terms : Option store.Terms) (a : Answer) → IsDone a → IsGoodAnswer s (events.Save number table c terms) a
+    saved_good number table c terms =
+        by_done (λ (a : Answer). IsGoodAnswer s (events.Save number table c terms) a) (record { form = tt; counts = refl; is = tt }) (λ r. record { form = tt; counts = refl; is = tt })
+
+    saved_sound : (number table c : ℕ) (terms : Option store.Terms) (lucks : List Luck)
+        → StepSound s w (events.Save number table c terms) (puts_beside w number table (store.PutSub c terms) lucks)
+    saved_sound number table c terms lucks =
+        puts_sound (events.Save number table c terms) number table (store.PutSub c terms) lucks (λ lines a. a) (λ told. tt) (saved_good number table c terms)
+
+    ask_sound : (c table : ℕ) (shape : Shape) (lucks : List Luck) → StepSound s w (events.Ask c table) (call w c (client.Next table [] []) shape lucks)
+    ask_sound c table shape lucks =
+        there_sound (events.Ask c table) c (client.Next table [] []) shape lucks (λ lines a. a) (λ told. tt)
+        (λ r before. record { form = tt; counts = refl; is = tt }) (λ no. absurd no) tt
+        (λ node at. by_done (λ (a : Answer). IsGoodAnswer s (events.Ask c table) a) (record { form = tt; counts = refl; is = tt }) (λ r. record { form = tt; counts = refl; is = tt }) _
+        (next_form c shape node.disk node.agenda table [] [])) (client_at w c) refl
+
+    net_sound : (it : NetEvent) → StepSound s w (events.Net it) (answered w facts.Done)
+    net_sound it = answered_sound w s k (events.Net it) facts.Done (λ lines a. a) tt (record { form = tt; counts = refl; is = tt }) (record { form = tt; counts = refl; is = tt })
+
     -- where a table is declared first, it is of its scheme
     abbrev pub IsFirst : Event → Type 0
     IsFirst (events.Table table schema) = hosted_at w table ≡ None → schema.scheme ≡ g table
@@ -1044,6 +1066,9 @@ module _ (client_law : ClientLaws) (client_grows : ClientGrows) (lapsed_grows : 
     step_sound up (events.ResolveAll c table by) lucks first = all_sound c table by lucks.shape lucks.shapes lucks.calls (other_lucks lucks.calls)
     step_sound up (events.Create node table) lucks first = created_sound table lucks.shape lucks.calls node
     step_sound up (events.Drop node table) lucks first = dropped_sound table lucks.shape lucks.calls node
+    step_sound up (events.Save number table d terms) lucks first = saved_sound number table d terms lucks.calls
+    step_sound up (events.Ask d table) lucks first = ask_sound d table lucks.shape lucks.calls
+    step_sound up (events.Net it) lucks first = net_sound it
     step_sound up (events.Deliver n) lucks first = delivered_sound n lucks.shape lucks.calls (slice_get w.packets n) refl
     step_sound up (events.StoreShow table row) lucks first = shows_sound up table row lucks.calls (hosted_at w table) refl
     step_sound up (events.History table) lucks first = history_sound table (hosted_at w table) refl

@@ -627,6 +627,9 @@ step_up w (events.ResolveAll c table by) lucks up =
     (event_up w c (client.ResolveAll table by) lucks.shape lucks.calls up)
 step_up w (events.Create node table) lucks up = created_up w table lucks.shape lucks.calls up node
 step_up w (events.Drop node table) lucks up = dropped_up w table lucks.shape lucks.calls up node
+step_up w (events.Save number table d terms) lucks up = puts_up w number table (store.PutSub d terms) lucks.calls up
+step_up w (events.Ask d table) lucks up = event_up w d (client.Next table [] []) lucks.shape lucks.calls up
+step_up w (events.Net it) lucks up = up
 step_up w (events.Deliver n) lucks up = delivered_up w lucks.shape lucks.calls up (slice_get w.packets n)
 step_up w (events.StoreShow table row) lucks up = shows_up w table row lucks.calls up (hosted_at w table)
 step_up w (events.History table) lucks up = history_up w table up (hosted_at w table)

@@ -935,6 +935,10 @@ step w (events.ResolveAll c table by) lucks =
 step w (events.Link c up) lucks = linked w c up (client_at w c)
 step w (events.Create node table) lucks = created w table lucks.shape lucks.calls node
 step w (events.Drop node table) lucks = dropped w table lucks.shape lucks.calls node
+step w (events.Save number table c terms) lucks =
+    puts_beside w number table (store.PutSub c terms) lucks.calls
+step w (events.Ask c table) lucks = call w c (client.Next table [] []) lucks.shape lucks.calls
+step w (events.Net it) lucks = answered w facts.Done
 step w (events.Deliver packet) lucks = delivered w lucks.shape lucks.calls (slice_get w.packets packet)
 step w (events.StoreShow table row) lucks = store_shows w table row lucks.calls (hosted_at w table)
 step w (events.History table) lucks = history_lines w table (hosted_at w table)

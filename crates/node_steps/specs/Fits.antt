@@ -23,4 +23,5 @@ packet_with from to message = record { from = from; to = to; message = message_o
 abbrev pub IsOwn : Event → Type 0
 IsOwn (events.Deliver packet) = ⊥
 IsOwn (events.Pull client table) = ⊥
+IsOwn (events.Ask client table) = ⊥
 IsOwn other = Unit {0}

@@ -84,5 +84,6 @@ Spends n w (events.ResolveAll client table by) =
     SpendsWithin n (length (client_pairs (client_at w client) table)) w client
 Spends n w (events.Create node table) = SpendsAt n w node
 Spends n w (events.Drop node table) = SpendsAt n w node
+Spends n w (events.Ask client table) = SpendsNumber n w client
 Spends n w (events.Deliver packet) = IsFull w ⊎ ((c : ℕ) × SpendsNumber n w c)
 Spends n w other = ⊥

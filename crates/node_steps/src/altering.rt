@@ -1,4 +1,4 @@
-//! Tables that are made and dropped: at their Store, and at clients.
+//! Tables that are made and dropped, at their Store and at clients, and subscriptions that a Store keeps.
 ghost use Rattle.std.specs.Prelude.{◌≡◌, ◌≢◌, ℕ, suc, true, IfOk, IfErr};
 ghost use Rattle.stab_base.specs.declared.node.Node.TheVariants as nodes;
 ghost use Rattle.table_model.specs.declared.event.Event.TheVariants as events;
@@ -10,6 +10,7 @@ ghost use Rattle.world_tables.specs.World.{schema_at, move_table};
 ghost use Rattle.world_tables.specs.World as calls;
 ghost use Rattle.fair_laws.specs.Worlds.{IsFair};
 ghost use Rattle.store_host.specs.Holds.{is_up_at, owner_at};
+ghost use Rattle.store_node.specs.Sides.{IsOfClient, put_of};
 ghost use Rattle.client_node.specs.Node.{IsToOpen};
 ghost use Rattle.node_steps.specs.declared.fault.WorldFault.TheVariants.{Memory, Limit as LimitPassed};
 ghost use Rattle.node_steps.specs.declared.fault.WorldFault.TheVariants.{Depot as DepotFailed};
@@ -27,6 +28,7 @@ use client_events::{close, open};
 use disk_trait::Disk;
 use row_value::{ClientNo, Schema, TableNo};
 use stab_base::{Node, StoreNo};
+use store_node::SidePut;
 use table_model::{Answer, TableState};
 
 impl<D: Disk + Drop> World<D> {
@@ -50,7 +52,7 @@ impl<D: Disk + Drop> World<D> {
         ensures only { IfErr result (λ e. e ≢ DepotFailed) }
     {
         match node {
-            Node::Store(store) => self.put_state(store, table, TableState::Live),
+            Node::Store(store) => self.put_beside(store, table, SidePut::State(TableState::Live)),
             Node::Client(client) => self.open_table(client, table),
             Node::Gate(_) => self.only(Answer::Done),
         }
@@ -76,7 +78,11 @@ impl<D: Disk + Drop> World<D> {
         ensures only { IfErr result (λ e. e ≢ DepotFailed) }
     {
         match node {
-            Node::Store(store) => self.put_state(store, table, TableState::Dropped),
+            Node::Store(store) => self.put_beside(
+                store,
+                table,
+                SidePut::State(TableState::Dropped),
+            ),
             Node::Client(client) => self.close_table(client, table),
             Node::Gate(_) => self.only(Answer::Done),
         }
@@ -84,19 +90,20 @@ impl<D: Disk + Drop> World<D> {
 
     // ---- a Store
 
-    // A Store puts a table into this state; one that it doesn't keep is passed over.
-    fn put_state(
+    /// A Store puts something beside the rows of a table; one that it doesn't keep is passed over.
+    pub(crate) fn put_beside(
         &mut self,
         store: StoreNo,
         table: TableNo,
-        state: TableState,
+        put: SidePut,
     ) -> Result<Told, WorldFault>
         requires held { (w : AWorld) × Holds D.state w self.old }
+        requires client { IsOfClient put }
         ensures done { (w : AWorld) → Holds D.state w self.old → Comes D.state w
-            (λ lucks. puts_beside w store table (PutState state) lucks.calls) result self.new }
+            (λ lucks. puts_beside w store table (put_of put) lucks.calls) result self.new }
         ensures counted { AreCounted D.state result self.old self.new }
         ensures rows { (w : AWorld) → Holds D.state w self.old → IfOk result (λ told.
-            AreLeftOver D.state D.images w (move_table table (Place (PutState state)) w).world self.old.store.tables
+            AreLeftOver D.state D.images w (move_table table (Place (put_of put)) w).world self.old.store.tables
             self.new.store.tables) }
         ensures clients { self.new.clients ≡ self.old.clients }
         ensures memory { IfErr result (λ e. e ≡ Memory) }
@@ -104,53 +111,45 @@ impl<D: Disk + Drop> World<D> {
         if self.is_down(Node::Store(store)) {
             return self.refuse(Node::Store(store));
         }
-        self.put_up(store, table, state)
+        self.put_up(store, table, put)
     }
 
-    fn put_up(
-        &mut self,
-        store: StoreNo,
-        table: TableNo,
-        state: TableState,
-    ) -> Result<Told, WorldFault>
+    fn put_up(&mut self, store: StoreNo, table: TableNo, put: SidePut) -> Result<Told, WorldFault>
         requires held { (w : AWorld) × Holds D.state w self.old }
         requires up { is_up_at self.old.store store ≡ true }
+        requires client { IsOfClient put }
         ensures done { (w : AWorld) → Holds D.state w self.old → Comes D.state w
-            (λ lucks. to_hosted w table (Place (PutState state)) lucks.calls (hosted_by w store table)) result
+            (λ lucks. to_hosted w table (Place (put_of put)) lucks.calls (hosted_by w store table)) result
             self.new }
         ensures counted { AreCounted D.state result self.old self.new }
         ensures rows { (w : AWorld) → Holds D.state w self.old → IfOk result (λ told.
-            AreLeftOver D.state D.images w (move_table table (Place (PutState state)) w).world self.old.store.tables
+            AreLeftOver D.state D.images w (move_table table (Place (put_of put)) w).world self.old.store.tables
             self.new.store.tables) }
         ensures clients { self.new.clients ≡ self.old.clients }
         ensures memory { IfErr result (λ e. e ≡ Memory) }
     {
         if self.owner(table) == store {
-            return self.place(store, table, state);
+            return self.place(store, table, put);
         }
         self.only(Answer::Done)
     }
 
-    fn place(
-        &mut self,
-        store: StoreNo,
-        table: TableNo,
-        state: TableState,
-    ) -> Result<Told, WorldFault>
+    fn place(&mut self, store: StoreNo, table: TableNo, put: SidePut) -> Result<Told, WorldFault>
         requires held { (w : AWorld) × Holds D.state w self.old }
         requires up { is_up_at self.old.store store ≡ true }
+        requires client { IsOfClient put }
         requires owner { owner_at self.old.store.tables table ≡ store }
         ensures done { (w : AWorld) → Holds D.state w self.old → Comes D.state w
-            (λ lucks. to_hosted w table (Place (PutState state)) lucks.calls (hosted_at w table)) result self.new }
+            (λ lucks. to_hosted w table (Place (put_of put)) lucks.calls (hosted_at w table)) result self.new }
         ensures counted { AreCounted D.state result self.old self.new }
         ensures rows { (w : AWorld) → Holds D.state w self.old → IfOk result (λ told.
-            AreLeftOver D.state D.images w (move_table table (Place (PutState state)) w).world self.old.store.tables
+            AreLeftOver D.state D.images w (move_table table (Place (put_of put)) w).world self.old.store.tables
             self.new.store.tables) }
         ensures clients { self.new.clients ≡ self.old.clients }
         ensures memory { IfErr result (λ e. e ≡ Memory) }
     {
         let is_held = self.is_held(Node::Store(store));
-        let answer = place(&mut self.store, store, is_held, table, state)?;
+        let answer = place(&mut self.store, store, is_held, table, put)?;
         self.tell(answer)
     }
 

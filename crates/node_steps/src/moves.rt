@@ -7,7 +7,7 @@ ghost use Rattle.stab_base.specs.declared.node.Node.TheVariants as nodes;
 ghost use Rattle.step_tables.specs.Facts as moves;
 ghost use Rattle.step_tables.specs.Messages.{Luck, table_of};
 ghost use Rattle.step_tables.specs.Store.{current_of};
-ghost use Rattle.step_tables.specs.StoreMoves.{Take, Place, PutState};
+ghost use Rattle.step_tables.specs.StoreMoves.{Take, Place};
 ghost use Rattle.step_tables.specs.Travels.{message_of};
 ghost use Rattle.world_tables.specs.World.{World as AWorld, Hosted as AHosted, owner_of, has_node, first_luck};
 ghost use Rattle.world_tables.specs.World.{busy_table, busy_step, write_next, tasks_of, store_until_idle};
@@ -19,6 +19,7 @@ ghost use Rattle.world_tables.specs.World.{is_fault};
 ghost use Rattle.world_tables.specs.Faults.{is_failure};
 ghost use Rattle.store_host.specs.Holds.{HoldsStore, IsStore, SameFaults, AreLeft, AreStill, is_up_at, is_up_for};
 ghost use Rattle.store_host.specs.Holds.{owner_at};
+ghost use Rattle.store_node.specs.Sides.{IsOfClient, put_of};
 ghost use Rattle.store_host.specs.Calls.{FitsIn, HasLuck, IsSpentIn};
 ghost use Rattle.store_host.specs.Steps.{faults_of};
 ghost use Rattle.node_steps.specs.declared.fault.WorldFault.TheVariants.{Memory, Limit as LimitPassed};
@@ -34,7 +35,7 @@ use row_value::{RowId, Schema, TableNo};
 use stab_base::{NUMBER_MAX, Node, StoreNo};
 use step_tables::Message;
 use store_host::StoreHost;
-use store_node::{NodeFault, table_of as table_in};
+use store_node::{NodeFault, SidePut, table_of as table_in};
 use table_model::{Answer, Refusal, TableState};
 
 /// Does the next write: what it is called, or that a device failed.
@@ -312,30 +313,31 @@ fn take_there<D: Disk + Drop>(
     }
 }
 
-/// The Store begins to put a table that it keeps into this state, and does the work that follows. One that isn't there
-/// is passed over.
+/// The Store begins a put beside the rows of a table that it keeps, and does the work that follows. One that isn't
+/// there is passed over.
 pub(crate) fn place<D: Disk + Drop>(
     stores: &mut StoreHost<D>,
     store: StoreNo,
     is_held: bool,
     table: TableNo,
-    state: TableState,
+    put: SidePut,
 ) -> Result<Answer, WorldFault>
     requires held { IsStore D.state stores.old }
+    requires client { IsOfClient put }
     requires up { is_up_at stores.old store ≡ true }
     requires owner { owner_at stores.old.tables table ≡ store }
     ensures done { (w : AWorld) → HoldsStore D.state w stores.old
         → is_held ≡ has_node w.holds (nodes.Store store) → IfOk result (λ answer. (lucks : List Luck)
-        × IsTakenAs D.state w table (Place (PutState state)) lucks stores.old stores.new answer) }
+        × IsTakenAs D.state w table (Place (put_of put)) lucks stores.old stores.new answer) }
     ensures counted { IfOk result (λ answer.
         IsCounted D.state (is_fault (answer_of answer)) stores.old.tables stores.new.tables) }
     ensures rows { (w : AWorld) → HoldsStore D.state w stores.old → IfOk result (λ answer.
-        AreLeftOver D.state D.images w (move_table table (Place (PutState state)) w).world stores.old.tables
+        AreLeftOver D.state D.images w (move_table table (Place (put_of put)) w).world stores.old.tables
         stores.new.tables) }
     ensures memory { IfErr result (λ e. e ≡ Memory) }
 {
     if stores.has(table) {
-        return place_there(stores, store, is_held, table, state);
+        return place_there(stores, store, is_held, table, put);
     }
     Ok(Answer::Done)
 }
@@ -345,23 +347,24 @@ fn place_there<D: Disk + Drop>(
     store: StoreNo,
     is_held: bool,
     table: TableNo,
-    state: TableState,
+    put: SidePut,
 ) -> Result<Answer, WorldFault>
     requires held { IsStore D.state stores.old }
+    requires client { IsOfClient put }
     requires up { is_up_at stores.old store ≡ true }
     requires owner { owner_at stores.old.tables table ≡ store }
     ensures done { (w : AWorld) (hosted : AHosted) → HoldsStore D.state w stores.old
         → is_held ≡ has_node w.holds (nodes.Store store) → hosted_at w table ≡ Some hosted
         → IfOk result (λ answer. (lucks : List Luck)
-        × IsTakenAs D.state w table (Place (PutState state)) lucks stores.old stores.new answer) }
+        × IsTakenAs D.state w table (Place (put_of put)) lucks stores.old stores.new answer) }
     ensures counted { IfOk result (λ answer.
         IsCounted D.state (is_fault (answer_of answer)) stores.old.tables stores.new.tables) }
     ensures rows { (w : AWorld) → HoldsStore D.state w stores.old → IfOk result (λ answer.
-        AreLeftOver D.state D.images w (move_table table (Place (PutState state)) w).world stores.old.tables
+        AreLeftOver D.state D.images w (move_table table (Place (put_of put)) w).world stores.old.tables
         stores.new.tables) }
     ensures memory { IfErr result (λ e. e ≡ Memory) }
 {
-    match stores.place_state(table, state) {
+    match stores.place(table, put) {
         Ok(()) => follow_table(stores, store, table, is_held),
         Err(NodeFault::Busy { with }) => Ok(Answer::Refused(Refusal::Busy { with })),
         Err(NodeFault::Disk) => Ok(Answer::Refused(Refusal::NoDevice)),

@@ -20,6 +20,7 @@ use row_value::{Schema, TableNo};
 use std::alloc::Global;
 use std::collections::BTreeMap;
 use store_host::StoreHost;
+use store_node::SidePut;
 use table_model::{Event, TableState};
 
 /// The declared Stores with their tables, and the clients, on their disks.
@@ -92,6 +93,18 @@ impl<D: Disk + Drop> World<D> {
             Event::ResolveAll { client, table, by } => self.resolve_all(*client, *table, *by),
             Event::Create { node, table } => self.create(*node, *table),
             Event::Drop { node, table } => self.drop_table(*node, *table),
+            Event::Save {
+                store,
+                table,
+                client,
+                terms,
+            } => {
+                let put = SidePut::Sub {
+                    client: *client,
+                    terms: *terms,
+                };
+                self.put_beside(*store, *table, put)
+            }
             Event::StoreShow { table, row } => self.store_show(*table, row),
             Event::History { table } => self.history(*table),
             Event::Chunks { table } => self.chunks(*table),

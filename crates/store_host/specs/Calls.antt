@@ -8,6 +8,7 @@ use Rattle.stab_base.specs.declared.node.Node.{Node}
 use Rattle.row_value.specs.declared.schema.Schema.{Schema}
 use Rattle.row_value.specs.Fit.{fit_of}
 use Rattle.row_store.specs.Spelling.{IsClient}
+use Rattle.row_store.specs.declared.stored.Sub.{Sub}
 use Rattle.step_tables.specs.Messages.{Luck, table_of}
 use Rattle.step_tables.specs.Messages as messages
 use Rattle.step_tables.specs.Store.{current_of}
@@ -22,6 +23,7 @@ use Rattle.store_node.specs.declared.showing.ShownRow.{ShownRow}
 use Rattle.store_node.specs.declared.showing.WholeRow.{WholeRow}
 use Rattle.store_node.specs.Calls.{IsAtWork, IsSpent, IsRowAt}
 use Rattle.store_node.specs.Reading.{shown_of}
+use Rattle.store_node.specs.Sides.{listed}
 use Rattle.world_tables.specs.World.{World, Moved, owner_of, scheme_in, chunk_in, schema_at, hosted_at}
 use Rattle.world_tables.specs.World.{and_then, move_table, table_falls, tables_fall, tables_start, store_falls}
 use Rattle.world_tables.specs.World.{table_crashes, crash_luck, first_luck, other_lucks, is_live, is_at_work}
@@ -226,3 +228,8 @@ pub record PutsBeside {D : Type 0} (state : D → DiskState) (w : World) (table 
 abbrev pub state_at : Option world.Hosted → Option TableState
 state_at None = None
 state_at (Some hosted) = state_up hosted.store
+
+-- the subscriptions to a table that may be there
+abbrev pub subs_at : Option world.Hosted → List Sub
+subs_at None = []
+subs_at (Some hosted) = listed hosted.store.disk.subs

@@ -28,8 +28,8 @@ ghost use Rattle.store_host.specs.Holds.{is_up_at, is_up_for, is_up_there};
 ghost use Rattle.store_host.specs.Joining.{risen};
 ghost use Rattle.store_host.specs.Steps.{faults_of};
 ghost use Rattle.store_host.specs.Calls.{AreMoved, IsMoved, HasCause, HasLuck, Takes, HasTakeCause, ShowsRow, GivesRow};
-ghost use Rattle.store_host.specs.Calls.{PutsBeside, restart_moves, table_in, busy_version, state_at};
-ghost use Rattle.step_tables.specs.StoreMoves.{PutState};
+ghost use Rattle.store_host.specs.Calls.{PutsBeside, restart_moves, table_in, busy_version, state_at, subs_at};
+ghost use Rattle.store_node.specs.Sides.{IsOfClient, put_of};
 
 use crate::hosted::{Hosted, TableOut};
 use crate::joining::{any_down, owner_in, renew_all, renew_at, settle_all};
@@ -45,7 +45,7 @@ use stab_base::{Names, Node, RowId, Sequence, Step, StoreNo, TableNo, Version};
 use std::alloc::Global;
 use std::collections::BTreeMap;
 use step_tables::Message;
-use store_node::{NodeFault, ShownRow, WholeRow, table_of};
+use store_node::{NodeFault, ShownRow, SidePut, Subs, WholeRow, table_of};
 use table_model::{History, TableState};
 
 /// The Stores with their tables, each table on its three disks and kept by its owner on the ring. A Store is up or down
@@ -382,15 +382,17 @@ impl<D: Disk + Drop> StoreHost<D> {
         }
     }
 
-    /// Begins to put a table into this state, in one write; one that isn't there is passed over.
+    /// Begins to put a table into a state, or a client's subscription to it, in one write; a table that isn't there is
+    /// passed over.
     ///
     /// `Busy` where the table has writes to do, with the version at work. `Disk` where a disk failed: the owner is then
     /// down, with all its tables. Any other fault leaves all as it was.
-    pub fn place_state(&mut self, table: TableNo, state: TableState) -> Result<(), NodeFault>
+    pub fn place(&mut self, table: TableNo, put: SidePut) -> Result<(), NodeFault>
         requires held { IsStore D.state self.old }
         requires up { is_up_for self.old table ≡ true }
+        requires client { IsOfClient put }
         ensures puts { (w : AWorld) → HoldsStore D.state w self.old
-            → PutsBeside D.state w table (PutState state) self.old self.new result }
+            → PutsBeside D.state w table (put_of put) self.old self.new result }
         ensures outs { self.new.outs ≡ self.old.outs }
         ensures up { (IsErrOf result DiskFailed → ⊥) → self.new.stores ≡ self.old.stores }
         ensures down { IsErrOf result DiskFailed → is_up_at self.new (owner_at self.old.tables table) ≡ false }
@@ -399,13 +401,27 @@ impl<D: Disk + Drop> StoreHost<D> {
             → AreLeft D.state D.images w self.old.tables self.new.tables }
     {
         let store = self.owner(table);
-        match place_at(&mut self.tables, table, state) {
+        match place_at(&mut self.tables, table, put) {
             Ok(()) => Ok(()),
             Err(NodeFault::Disk) => {
                 self.fall(store);
                 Err(NodeFault::Disk)
             }
             Err(fault) => Err(fault),
+        }
+    }
+
+    /// The subscriptions to a table, by rising client; none where it isn't there.
+    pub fn subs(&self, table: TableNo) -> Result<Subs, NodeFault>
+        requires held { IsStore D.state self.now }
+        requires up { is_up_for self.now table ≡ true }
+        ensures subs { (w : AWorld) → HoldsStore D.state w self.now
+            → IfOk result (λ subs. subs ≡ subs_at (hosted_at w table)) }
+        ensures only { IfErr result (λ e. e ≡ Memory) }
+    {
+        match self.tables.get(&table) {
+            Some(hosted) => hosted.subs(),
+            None => Ok(Sequence::new(self.alloc)),
         }
     }
 

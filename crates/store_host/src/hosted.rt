@@ -8,7 +8,7 @@ ghost use Rattle.row_store.specs.Spelling.{table_payload};
 ghost use Rattle.row_value.specs.declared.schema.Schema.{Schema as ASchema};
 ghost use Rattle.step_tables.specs.Sayings.{saying};
 ghost use Rattle.std.specs.Vec.{vec_capacity, vec_len};
-ghost use Rattle.step_tables.specs.StoreMoves.{StoreStep, TableStore, Work, Crash, PutState};
+ghost use Rattle.step_tables.specs.StoreMoves.{StoreStep, TableStore, Work, Crash};
 ghost use Rattle.step_tables.specs.Messages as messages;
 ghost use Rattle.store_node.specs.declared.fault.NodeFault.TheVariants.{Disk as DiskFailed, Memory};
 ghost use Rattle.store_node.specs.Due.{fact_of};
@@ -18,6 +18,7 @@ ghost use Rattle.row_store.specs.Standing as rows;
 ghost use Rattle.store_commit.specs.Standing.{RowsLeave};
 ghost use Rattle.store_node.specs.Node.{IsNode, IsTable, has_task, own_faults, behind_next, LeavesRows};
 ghost use Rattle.store_node.specs.Node.{HasBlankDisks, HasNoRows};
+ghost use Rattle.store_node.specs.Sides.{IsOfClient, listed, put_of};
 ghost use Rattle.table_model.specs.declared.table_state.TableState.{TableState as AState};
 ghost use Rattle.world_tables.specs.World.{goes_on, history_on, next_step, tasks_in, new_hosted, is_live_state};
 ghost use Rattle.world_tables.specs.World as world;
@@ -32,7 +33,7 @@ use stab_base::{Node, RowId, Sequence, Step, StoreNo, TableNo};
 use std::alloc::Global;
 use std::mem;
 use step_tables::Message;
-use store_node::{NodeFault, ShownRow, StoreFact, StoreOut, TableNode, WholeRow};
+use store_node::{NodeFault, ShownRow, SidePut, StoreFact, StoreOut, Subs, TableNode, WholeRow};
 use table_model::{History, TableState};
 
 /// What a table told and sent, with the Store that keeps it.
@@ -310,20 +311,21 @@ impl<D: Disk + Drop> Hosted<D> {
         answer
     }
 
-    /// Begins to put the table into this state. A refusal leaves all as it was, but where a disk has failed the table
+    /// Begins a put beside the table's rows. A refusal leaves all as it was, but where a disk has failed the table
     /// is down.
-    pub(crate) fn place_state(&mut self, state: TableState) -> Result<(), NodeFault>
+    pub(crate) fn place(&mut self, put: SidePut) -> Result<(), NodeFault>
         requires node { IsNode D.state self.old.node }
         requires up { self.old.node.is_up ≡ true }
+        requires client { IsOfClient put }
         ensures placed { (store : ℕ) (schema : Option ASchema) (table : ℕ) (hosted : world.Hosted)
             → IsHosted D.state store schema table hosted self.old
-            → HasPlaced D.state store schema table hosted (PutState state) self.new result }
+            → HasPlaced D.state store schema table hosted (put_of put) self.new result }
         ensures cause { HasNodeTakeCause D.state self.old.node self.new.node result }
         ensures left { (store : ℕ) (schema : Option ASchema) (table : ℕ) (hosted : world.Hosted)
             → IsHosted D.state store schema table hosted self.old → hosted.made ≡ true
             → LeavesRows D.state D.images self.old.node self.new.node hosted.store.disk hosted.store.disk }
     {
-        self.node.place_state(state)
+        self.node.place(put)
     }
 
     /// The state of the table, where it is up.
@@ -334,6 +336,17 @@ impl<D: Disk + Drop> Hosted<D> {
             return Some(self.node.state());
         }
         None
+    }
+
+    /// The subscriptions to the table, by rising client.
+    pub(crate) fn subs(&self) -> Result<Subs, NodeFault>
+        requires node { IsNode D.state self.now.node }
+        requires up { self.now.node.is_up ≡ true }
+        ensures subs { (s : TableStore) → IsTable D.state self.now.node s
+            → IfOk result (λ subs. subs ≡ listed s.disk.subs) }
+        ensures only { IfErr result (λ e. e ≡ NodeFault.Memory) }
+    {
+        self.node.subs()
     }
 
     /// Whether the table is live and has writes to do.

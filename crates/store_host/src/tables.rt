@@ -4,11 +4,12 @@ ghost use Rattle.std.specs.Prelude.{IsSome, [], ◌∷◌, ◌++◌, if◌then�
 ghost use Rattle.std.specs.BTreeMap as tree;
 ghost use Rattle.std.specs.Ordering.{nat_cmp};
 ghost use Rattle.std.specs.List.{find};
-ghost use Rattle.step_tables.specs.StoreMoves.{TableStore, Work, PutState};
+ghost use Rattle.step_tables.specs.StoreMoves.{TableStore, Work};
 ghost use Rattle.step_tables.specs.Messages as messages;
 ghost use Rattle.step_tables.specs.Messages.{Luck};
 ghost use Rattle.store_node.specs.declared.fault.NodeFault.TheVariants.{Disk as DiskFailed, Memory};
 ghost use Rattle.store_node.specs.Node.{IsNode, IsTable};
+ghost use Rattle.store_node.specs.Sides.{IsOfClient, put_of};
 ghost use Rattle.world_tables.specs.World.{World as AWorld, is_at_work, busy_step, hosted_at, move_table};
 ghost use Rattle.world_tables.specs.World.{table_falls, tables_fall, table_starts, tables_start};
 ghost use Rattle.store_host.specs.Holds.{HoldsTables, AreTables, IsUpTable, SameFaults, AreLeft, AreStill};
@@ -23,8 +24,8 @@ use stab_base::{Node, RowId, Sequence, Step, StoreNo, TableNo, Version};
 use std::alloc::Global;
 use std::collections::BTreeMap;
 use step_tables::Message;
-use store_node::{NodeFault, ShownRow, TableNode, WholeRow, table_of};
-use table_model::{TableState, Tables};
+use store_node::{NodeFault, ShownRow, SidePut, TableNode, WholeRow, table_of};
+use table_model::Tables;
 
 /// Whether a table has writes to do.
 pub(crate) fn is_busy_at<D: Disk + Drop>(
@@ -288,23 +289,24 @@ pub(crate) fn deliver_to<D: Disk + Drop>(
     }
 }
 
-/// Begins to put one of these tables into this state; one that isn't there is passed over.
+/// Begins a put beside the rows of one of these tables; one that isn't there is passed over.
 pub(crate) fn place_at<D: Disk + Drop>(
     tables: &mut BTreeMap<TableNo, Hosted<D>>,
     table: TableNo,
-    state: TableState,
+    put: SidePut,
 ) -> Result<(), NodeFault>
     requires held { AreTables D.state tables.old }
     requires up { IsUpTable tables.old table }
+    requires client { IsOfClient put }
     ensures placed { (w : AWorld) → HoldsTables D.state w tables.old
-        → ArePlaced D.state w table (PutState state) tables.new result }
+        → ArePlaced D.state w table (put_of put) tables.new result }
     ensures there { IsErrOf result DiskFailed → IsSome (tree.get nat_cmp tables.old table) }
     ensures cause { HasTakeCause D.state tables.old tables.new result }
     ensures left { (w : AWorld) → HoldsTables D.state w tables.old
         → AreStill D.state D.images w tables.old tables.new }
 {
     match tables.get_mut(&table) {
-        Some(hosted) => hosted.place_state(state),
+        Some(hosted) => hosted.place(put),
         None => Ok(()),
     }
 }

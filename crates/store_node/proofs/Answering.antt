@@ -25,15 +25,13 @@ use Rattle.step_tables.specs.Chunks.{is_spelled}
 use Rattle.step_tables.specs.Facts as facts_of
 use Rattle.step_tables.specs.Store.{current_of, next_changed}
 use Rattle.step_tables.specs.StoreMoves.{StoreDisk, StoreStep, StoreTask, TableStore, asked, decided, quiet, answered, responded, pulled_for, item_for, yours_in, version_of, keeps_there}
-use Rattle.step_tables.specs.StoreMoves.{torn_answered, torn_pulled_for, SidePut, PutState}
+use Rattle.step_tables.specs.StoreMoves.{torn_answered, torn_pulled_for, SidePut}
 use Rattle.step_tables.specs.Travels.{outcome_of, pulled_of, torn_of, torn_pulled_of, send_of}
 use Rattle.store_commit.specs.declared.devs.TableDevs.{TableDevs}
 use Rattle.store_commit.specs.declared.fault.CommitFault.{CommitFault}
 use Rattle.store_commit.specs.declared.fault.CommitFault.TheVariants as commits
 use Rattle.store_commit.specs.Standing.{devs, writes_of, IsReady}
-use Rattle.table_model.specs.declared.table_state.TableState.{TableState}
-use Rattle.device_laws.specs.Stands.{Stands, state_number}
-use Rattle.store_commit.specs.Devs.{PutTable}
+use Rattle.device_laws.specs.Stands.{Stands}
 use Rattle.table_model.specs.declared.entry.Entry.{Entry}
 use Rattle.store_node.specs.declared.gathered.Gathered.{Gathered}
 use Rattle.store_node.specs.declared.told.StoreFact.{StoreFact}
@@ -48,6 +46,8 @@ use Rattle.store_node.specs.Gathered.{HasRoom}
 use Rattle.store_node.specs.Messages.{entry_of}
 use Rattle.store_node.specs.Node.{IsTable, sent_by}
 use Rattle.store_node.specs.Calls.{Fell, Answers, Delivers, Places, IsTaken, IsSpentOn, put_step}
+use Rattle.store_node.specs.Sides.{put_of, write_beside}
+use Rattle.store_node.specs.declared.side_put.SidePut as sides
 use Rattle.store_node.specs.Taking.{Serves, IsPulled, IsTornPulled, IsTaking, refusal_of, refused_by, step_for}
 use Rattle.store_node.specs.Update.{request_of, pull_of}
 use Rattle.store_node.proofs.Following.{follows_now}
@@ -189,14 +189,14 @@ module _ {D : Type 0} (state : D → DiskState) (images : D → ℕ → List ℕ
           idly (λ x. Answers state images x (step x.disk) (is_spent x.disk) old new (Err (fault_of e))) s t
           (λ disk u. fails state images only_now old disk u (step disk) (is_spent disk) table facts messages new {T = T} e (spent disk (stands_at disk u)) k told sent fell stays)
 
-      -- ---- the put of the table's state
+      -- ---- a put beside the rows
 
-      pub puts_state : (stage : TableState) (number : ℕ) → number ≡ state_number stage → {T : Type 0} (x : T) → Serves st im old.devs table (Ok x) → writes_of table ≡ PutTable old.schema number ∷ []
+      pub puts_beside : (put : sides.SidePut) → {T : Type 0} (x : T) → Serves st im old.devs table (Ok x) → writes_of table ≡ write_beside old.schema put ∷ []
           → facts.items.items ≡ old.facts.items.items → HasRoom facts 1
-          → (s : TableStore) → IsTable state old s → Answers state images s (put_step old.table s.disk (PutState stage)) ⊥ old (record old { devs = table; facts = facts; owed = owed.Place stage }) (Ok tt)
-      puts_state stage number is x k taken told room s t =
-          idly (λ y. Answers state images y (put_step old.table y.disk (PutState stage)) ⊥ old (record old { devs = table; facts = facts; owed = owed.Place stage }) (Ok tt)) s t
-          (λ disk u. places_on state images only_now old disk u table facts stage number is x k taken told room)
+          → (s : TableStore) → IsTable state old s → Answers state images s (put_step old.table s.disk (put_of put)) ⊥ old (record old { devs = table; facts = facts; owed = owed.Place put }) (Ok tt)
+      puts_beside put x k taken told room s t =
+          idly (λ y. Answers state images y (put_step old.table y.disk (put_of put)) ⊥ old (record old { devs = table; facts = facts; owed = owed.Place put }) (Ok tt)) s t
+          (λ disk u. places_on state images only_now old disk u table facts put x k taken told room)
 
       -- ---- a pull
 

@@ -1,5 +1,5 @@
 -- The chunks on the devices are those of the rows, and those that are left.
-use Rattle.std.proofs.Common.{◌≡◌, inl, inr, ⊎_elim, ◌⊎◌, ℕ, List, true, Option, Some, None, Err, refl, sym, ap, subst}
+use Rattle.std.proofs.Common.{◌≡◌, inl, inr, ⊎_elim, ◌⊎◌, ℕ, List, map, true, Option, Some, None, Err, refl, sym, ◌∙◌, ap, subst}
 use Rattle.std.specs.Prelude.{IsSome, IsErrOf}
 use Rattle.std.specs.Map.{keys_of}
 use Rattle.std.specs.List.Sorted.{IsStrictlySortedBy}
@@ -13,7 +13,11 @@ use Rattle.store_commit.specs.declared.fault.CommitFault.{CommitFault}
 use Rattle.store_commit.specs.declared.fault.CommitFault.TheVariants.{Down, Memory}
 use Rattle.store_commit.specs.Devs.{Devs, Write}
 use Rattle.store_commit.specs.NamedChunks.{Among}
-use Rattle.store_commit.specs.Standing.{devs, writes_of, AreUp, IsOneDown, AreLookedAt, IsReady}
+use Rattle.store_commit.specs.Standing.{devs, seen, writes_of, AreUp, IsOneDown, AreLookedAt, IsReady}
+use Rattle.row_store.specs.Data.{sub_of, subs_of}
+use Rattle.row_store.specs.declared.stored.Sub.{Sub}
+use Rattle.row_store.specs.declared.stored.Terms.{Terms}
+use Rattle.store_commit.proofs.Seen.{seen_all}
 use Rattle.store_commit.proofs.Leftovers.{keys_found, found_keys}
 use Rattle.store_commit.proofs.Works.{up_or_down}
 use Rattle.step_tables.specs.StoreMoves.{StoreDisk, StoreTask, TableStore}
@@ -25,6 +29,7 @@ use Rattle.device_laws.proofs.NamedDevices.{held_with}
 use Rattle.device_laws.proofs.Steps.{some_is}
 use Rattle.store_node.specs.Kept.{IsKept, AreKept}
 use Rattle.store_node.specs.Fault.{fault_of}
+use Rattle.store_node.specs.Sides.{listed}
 use Rattle.store_node.specs.declared.fault.NodeFault.TheVariants as node_faults
 use Rattle.store_node.specs.declared.node.TableNode.{TableNode}
 use Rattle.store_node.specs.Node.{IsTable}
@@ -65,6 +70,13 @@ module _ {D : Type 0} (state : D → DiskState) where
   names_kept node disk None t up names are rising = let no_ = t.at.0 in absurd cc
   names_kept node disk (Some tasks) t up names are rising =
       are_kept node.schema (devs (behind state) node.devs) disk (follows_now node.schema (devs (behind state) node.devs) (writes_of node.devs) disk tasks t.at.1.follows) names are rising
+
+  pub subs_listed : (node : TableNode D) (disk : StoreDisk) (agenda : Option (List StoreTask)) → IsTable state node (at disk agenda) → node.is_up ≡ true → (subs : List Sub)
+      → subs ≡ subs_of (seen (behind state) node.devs).held → subs ≡ listed disk.subs
+  subs_listed node disk None t up subs are = let no_ = t.at.0 in absurd cc
+  subs_listed node disk (Some tasks) t up subs are =
+      let stands = follows_now node.schema (devs (behind state) node.devs) (writes_of node.devs) disk tasks t.at.1.follows in
+      are ∙ (ap (λ (d : Devs). subs_of d.held) (seen_all (behind state) node.devs t.at.1.hidden) ∙ ap (λ (l : List (ℕ × Terms)). map sub_of l) stands.held.subs)
 
   pub looked_at : (node : TableNode D) (ws : List Write) → IsReady (behind state) node.devs ws → AreLookedAt (behind state) node.devs
   looked_at node ws r = record { chunks = r.chunk_looked; rows = r.row_looked; log = r.log_looked }

@@ -21,31 +21,31 @@ use Rattle.step_tables.specs.Facts as facts_of
 use Rattle.step_tables.specs.Messages.{Send, Pair, Outcome, Request, Again, Late, Stale, Conflict, NeedWhole}
 use Rattle.step_tables.specs.Store.{Stored, current_of}
 use Rattle.step_tables.specs.StoreMoves.{StoreDisk, StoreTask, StoreStep, TableStore, accepting, item_for, sending, quiet, responded, decided, takes, unaccepted, keeps_there, version_of}
-use Rattle.step_tables.specs.StoreMoves.{PutState, beside_task}
+use Rattle.step_tables.specs.StoreMoves.{beside_task}
 use Rattle.step_tables.specs.Chunks.{is_spelled}
 use Rattle.store_commit.specs.declared.devs.TableDevs.{TableDevs}
 use Rattle.store_commit.specs.declared.fault.CommitFault.{CommitFault}
 use Rattle.store_commit.specs.declared.fault.CommitFault.TheVariants as commits
-use Rattle.store_commit.specs.Devs.{Devs, Write, PutTable}
+use Rattle.store_commit.specs.Devs.{Devs, Write}
 use Rattle.store_commit.specs.Standing.{devs, writes_of, DevsLeave}
 use Rattle.store_commit.specs.TakesOn.{AllLeave}
 use Rattle.store_commit.proofs.Works.{all_same}
 use Rattle.store_commit.proofs.Moments.{devs_weaker, rows_weaker}
 use Rattle.store_commit.specs.Agenda.{update_writes}
 use Rattle.store_commit.specs.Update.{entry_for, stored_for}
-use Rattle.table_model.specs.declared.table_state.TableState.{TableState}
-use Rattle.device_laws.specs.Stands.{Stands, Follows, update_for, state_number}
-use Rattle.device_laws.proofs.Beside.{state_follows}
+use Rattle.device_laws.specs.Stands.{Stands, Follows, update_for}
 use Rattle.device_laws.proofs.Updates.{update_follows}
 use Rattle.step_tables.specs.Travels.{send_of}
 use Rattle.store_node.specs.Due.{fact_of}
 use Rattle.store_node.specs.Fault.{fault_of}
 use Rattle.store_node.specs.Gathered.{HasRoom}
+use Rattle.store_node.specs.Sides.{put_of, write_beside}
 use Rattle.store_node.specs.Taking.{refusal_of, answer_to, or_whole, Serves, IsBegunBy, step_for}
 use Rattle.store_node.specs.Update.{request_of}
 use Rattle.store_node.specs.declared.gathered.Gathered.{Gathered}
 use Rattle.store_node.specs.declared.told.StoreFact.{StoreFact}
 use Rattle.store_node.specs.declared.owed.Owed.TheVariants as owed
+use Rattle.store_node.specs.declared.side_put.SidePut.{SidePut}
 use Rattle.store_node.specs.declared.fault.NodeFault.{NodeFault}
 use Rattle.store_node.specs.declared.fault.NodeFault.TheVariants as node_faults
 use Rattle.store_node.specs.declared.node.TableNode.{TableNode}
@@ -57,7 +57,7 @@ use Rattle.store_node.proofs.Falling.{MayHold, fallen, fallen_leaves, fallen_row
 use Rattle.store_node.proofs.Following.{own_stays, own_rises, follows_now}
 use Rattle.store_node.proofs.Making.{same_hidden, ready_up}
 use Rattle.store_node.proofs.Starting.{no_room}
-use Rattle.store_node.proofs.Stages.{accepting_puts, place_room, place_facts}
+use Rattle.store_node.proofs.Stages.{accepting_puts, place_puts, place_room, place_facts, place_follows, place_well}
 use Rattle.store_node.proofs.Working.{still_leaves, still_rows}
 
 -- ---- a request, as it is decided
@@ -262,15 +262,14 @@ module _ {D : Type 0} (state : D → DiskState) (images : D → ℕ → List ℕ
         }
 
     -- the put of the table's state is taken on
-    pub places_on : (table : TableDevs (FuseDisk D)) (facts : Gathered StoreFact) (stage : TableState) (number : ℕ) → number ≡ state_number stage → {T : Type 0} (x : T) → Serves st im old.devs table (Ok x)
-        → writes_of table ≡ PutTable old.schema number ∷ [] → facts.items.items ≡ old.facts.items.items → HasRoom facts 1
-        → Answers state images s (put_step old.table disk (PutState stage)) ⊥ old (record old { devs = table; facts = facts; owed = owed.Place stage }) (Ok tt)
-    places_on table facts stage number is x k taken told room =
+    pub places_on : (table : TableDevs (FuseDisk D)) (facts : Gathered StoreFact) (put : SidePut) → {T : Type 0} (x : T) → Serves st im old.devs table (Ok x)
+        → writes_of table ≡ write_beside old.schema put ∷ [] → facts.items.items ≡ old.facts.items.items → HasRoom facts 1
+        → Answers state images s (put_step old.table disk (put_of put)) ⊥ old (record old { devs = table; facts = facts; owed = owed.Place put }) (Ok tt)
+    places_on table facts put x k taken told room =
         let here = devs st old.devs in
-        let tasks : List StoreTask = beside_task old.table (PutState stage) ∷ [] in
-        let writes = taken ∙ ap (λ (n : ℕ). PutTable old.schema n ∷ []) is in
+        let tasks : List StoreTask = beside_task old.table (put_of put) ∷ [] in
         let ready = k.ready (λ is. cc) in
-        let now = subst (λ (l : List Write). Follows old.schema here l disk tasks) (sym writes) (state_follows old.schema here disk old.table stage stands) in
+        let now = subst (λ (l : List Write). Follows old.schema here l disk tasks) (sym taken) (place_follows old.schema here disk old.table put stands) in
         record {
           done = record {
             table = record {
@@ -286,13 +285,13 @@ module _ {D : Type 0} (state : D → DiskState) (images : D → ℕ → List ℕ
                   hidden = same_hidden st im old.devs table k.scanned h.hidden;
                   ready = ready;
                   follows = subst (λ (d : Devs). Follows old.schema d (writes_of table) disk tasks) (sym (k.same (λ is. cc))) now;
-                  well = (h.well.0, h.well);
-                  owed = tell_owed old.table (owed.Place stage) old.schema here (writes_of table) disk tasks now ((λ last. refl), refl, tt);
+                  well = place_well old.schema disk old.table (put_of put) h.well;
+                  owed = tell_owed old.table (owed.Place put) old.schema here (writes_of table) disk tasks now ((λ last. refl), refl, tt);
                   stage = h.stage;
-                  stages = ((λ d. refl), tt);
-                  fact_room = place_room old.table stage facts room;
+                  stages = ((λ d. place_puts (put_of put) d), tt);
+                  fact_room = place_room old.table (put_of put) facts room;
                   message_room = no_room old.messages;
-                  few_facts = place_facts old.table stage;
+                  few_facts = place_facts old.table (put_of put);
                   few_messages = omega arith;
                 },
               );

@@ -1,5 +1,6 @@
 pub mod Fault
 pub mod Gathered
+pub mod Sides
 pub mod Due
 pub mod Devices
 pub mod Messages

@@ -1,39 +1,51 @@
 //! What a write tells and sends once it is done.
 ghost use Rattle.std.specs.Prelude.{◌≡◌, map, option_to_list};
 ghost use Rattle.step_tables.specs.Travels.{send_of};
-ghost use Rattle.step_tables.specs.StoreMoves.{told_beside, PutState};
+ghost use Rattle.step_tables.specs.StoreMoves.{told_beside};
 ghost use Rattle.store_node.specs.Due.{fact_of, told_at, sent_at, facts_found, state_at};
+ghost use Rattle.store_node.specs.Sides.{put_of, state_behind};
 
 use crate::owed::Owed;
+use crate::side_put::SidePut;
 use crate::told::StoreFact;
 use stab_base::{Step, TableNo};
 use step_tables::{Addressed, Message, Outcome, SyncResponse};
 use store_commit::Recovery;
 use table_model::{Entry, TableState};
 
-// What the put of a table's state tells.
-fn placed(table: TableNo, state: TableState) -> Option<StoreFact>
-    ensures { map fact_of (option_to_list result) ≡ told_beside table (PutState state) }
+// What a put beside the rows tells: that the table is live, or dropped, or keeps a subscription.
+fn placed(table: TableNo, put: SidePut) -> Option<StoreFact>
+    ensures { map fact_of (option_to_list result) ≡ told_beside table (put_of put) }
 {
-    match state {
-        TableState::Draft => None,
-        TableState::Live => Some(StoreFact::Made { table }),
-        TableState::Dropped => Some(StoreFact::Unmade { table }),
+    match put {
+        SidePut::State(TableState::Live) => Some(StoreFact::Made { table }),
+        SidePut::State(TableState::Dropped) => Some(StoreFact::Unmade { table }),
+        SidePut::State(TableState::Draft) => None,
+        SidePut::Sub { .. } => Some(StoreFact::Saved { table }),
     }
 }
 
-/// The table's state behind a write, where it was this one.
+fn state_put(put: SidePut, state: TableState) -> TableState
+    ensures { result ≡ state_behind (put_of put) state }
+{
+    match put {
+        SidePut::State(state) => state,
+        SidePut::Sub { .. } => state,
+    }
+}
+
+/// The table's state behind a write, where it was put there.
 pub(crate) fn state_behind(owed: &Owed, state: TableState) -> TableState
     ensures { result ≡ state_at owed.now state }
 {
     match owed {
-        Owed::Place { state } => *state,
+        Owed::Place { put } => state_put(*put, state),
         _ => state,
     }
 }
 
 /// What a write tells: the put of a row that its entry was accepted, the last write of a start that the table has
-/// recovered, the put of the table's state what it is now.
+/// recovered, a put of the table's state what it is now.
 pub(crate) fn fact_due(table: TableNo, owed: &Owed, step: Step, is_last: bool) -> Option<StoreFact>
     ensures { map fact_of (option_to_list result) ≡ told_at table owed.now step is_last }
 {
@@ -56,7 +68,7 @@ pub(crate) fn fact_due(table: TableNo, owed: &Owed, step: Step, is_last: bool) -
                 None
             }
         }
-        Owed::Place { state } => placed(table, *state),
+        Owed::Place { put } => placed(table, *put),
     }
 }
 

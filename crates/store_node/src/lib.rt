@@ -1,6 +1,7 @@
 //! A table at the Store on its three devices.
 #![tactic(auto)]
 
+mod beside;
 mod devices;
 mod due;
 mod fault;
@@ -14,6 +15,7 @@ mod owed;
 mod pulling;
 mod reading;
 mod showing;
+mod side_put;
 mod taking;
 mod told;
 mod update;
@@ -21,5 +23,7 @@ mod update;
 pub use fault::NodeFault;
 pub use messages::table_of;
 pub use node::{StoreOut, TableNode};
+pub use row_store::{Sub, Subs};
 pub use showing::{ShownRow, WholeRow};
+pub use side_put::SidePut;
 pub use told::StoreFact;

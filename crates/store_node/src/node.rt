@@ -13,7 +13,7 @@ ghost use Rattle.row_store.specs.Standing as rows;
 ghost use Rattle.status_log.specs.Standing as logs;
 ghost use Rattle.store_commit.specs.Standing.{writes_of};
 ghost use Rattle.step_tables.specs.Chunks.{is_spelled};
-ghost use Rattle.step_tables.specs.StoreMoves.{TableStore, PutState, answered, asked, torn_answered, new_disk};
+ghost use Rattle.step_tables.specs.StoreMoves.{TableStore, answered, asked, torn_answered, new_disk};
 ghost use Rattle.step_tables.specs.Travels.{send_of, torn_of};
 ghost use Rattle.store_node.specs.Due.{fact_of};
 ghost use Rattle.store_node.specs.Kept.{AreKept};
@@ -22,22 +22,25 @@ ghost use Rattle.store_node.specs.Calls.{Works, Crashes, Declares, DeclaresLate,
 ghost use Rattle.store_node.specs.Calls.{Answers, Delivers, Places, Shows, Gives, IsSpentOn, IsAtWork, put_step};
 ghost use Rattle.store_node.specs.Fault.{fault_of};
 ghost use Rattle.store_node.specs.Halts.{Halts};
+ghost use Rattle.store_node.specs.Sides.{IsOfClient, listed, put_of};
 ghost use Rattle.store_node.specs.Taking.{refused_by, step_for};
 ghost use Rattle.store_node.specs.Update.{request_of, pull_of};
 
+use crate::beside::begin_beside;
 use crate::devices::{make_table, remake_table, resume};
 use crate::due::{answer_due, fact_due, found, state_behind};
 use crate::fault::NodeFault;
 use crate::gathered::Gathered;
-use crate::live::number_of;
 use crate::messages::{entry, is_taken, response};
 use crate::owed::Owed;
 use crate::pulling::{pull, pull_torn};
 use crate::showing::{ShownRow, WholeRow, read_row, shown};
+use crate::side_put::SidePut;
 use crate::taking::{Taken, take_write};
 use crate::told::StoreFact;
 use disk_trait::{Disk, FuseDisk};
 use row_pieces::is_spelled;
+use row_store::Subs;
 use row_value::{Schema, Sequence};
 use stab_base::{Names, Node, RowId, Step, StoreNo, TableNo, Version};
 use std::alloc::Global;
@@ -203,6 +206,18 @@ impl<D: Disk + Drop> TableNode<D> {
     {
         let names = self.devs.chunk_names()?;
         Ok(names)
+    }
+
+    /// The subscriptions to the table, by rising client.
+    pub fn subs(&self) -> Result<Subs, NodeFault>
+        requires node { IsNode D.state self.now }
+        requires up { self.now.is_up ≡ true }
+        ensures subs { (s : TableStore) → IsTable D.state self.now s
+            → IfOk result (λ subs. subs ≡ listed s.disk.subs) }
+        ensures only { IfErr result (λ e. e ≡ NodeFault.Memory) }
+    {
+        let subs = self.devs.subs()?;
+        Ok(subs)
     }
 
     /// A row with its last version, or none where nothing was written to it.
@@ -553,34 +568,36 @@ impl<D: Disk + Drop> TableNode<D> {
         }
     }
 
-    // Takes the put of the table's state on.
-    fn place(&mut self, state: TableState) -> Result<(), NodeFault>
+    // Takes the put on.
+    fn take_put(&mut self, put: SidePut) -> Result<(), NodeFault>
         requires node { IsNode D.state self.old }
         requires up { self.old.is_up ≡ true }
         requires idle { writes_of self.old.devs ≡ [] }
+        requires client { IsOfClient put }
         ensures answers { (s : TableStore) → IsTable D.state self.old s
-            → Answers D.state D.images s (put_step self.old.table s.disk (PutState state)) ⊥ self.old self.new result }
+            → Answers D.state D.images s (put_step self.old.table s.disk (put_of put)) ⊥ self.old self.new result }
         ensures declared { self.new.is_declared ≡ self.old.is_declared }
     {
         self.facts.reserve(1)?;
-        match self.devs.begin_table(&self.schema, number_of(state)) {
+        match begin_beside(&mut self.devs, &self.schema, put) {
             Ok(()) => {
-                self.owed = Owed::Place { state };
+                self.owed = Owed::Place { put };
                 Ok(())
             }
             Err(fault) => Err(self.fail(fault)),
         }
     }
 
-    /// Begins to put the table into this state, in one write. It tells that the table is live, or dropped, once that
-    /// is done.
+    /// Begins to put the table into a state, or a client's subscription, in one write. That the table is live, or
+    /// dropped, is told once it is done.
     ///
     /// `Busy` where writes are still to be done. `Disk` where a disk failed: the node is then down.
-    pub fn place_state(&mut self, state: TableState) -> Result<(), NodeFault>
+    pub fn place(&mut self, put: SidePut) -> Result<(), NodeFault>
         requires node { IsNode D.state self.old }
         requires up { self.old.is_up ≡ true }
+        requires client { IsOfClient put }
         ensures places { (s : TableStore) → IsTable D.state self.old s
-            → Places D.state D.images s (PutState state) self.old self.new result }
+            → Places D.state D.images s (put_of put) self.old self.new result }
         ensures node { IsNode D.state self.new }
         ensures declared { self.new.is_declared ≡ self.old.is_declared }
     {
@@ -589,7 +606,7 @@ impl<D: Disk + Drop> TableNode<D> {
                 with: self.devs.at_work(),
             });
         }
-        self.place(state)
+        self.take_put(put)
     }
 
     /// Crashes the node: of the disk of the next write the first `calls` calls pass, and a write that follows lands its

@@ -1,5 +1,6 @@
+use crate::side_put::SidePut;
 use stab_base::{Node, StoreNo};
-use table_model::{Entry, TableState};
+use table_model::Entry;
 
 /// What the writes that are to be done tell and send.
 #[derive(Debug, Clone, Copy, PartialEq, Eq)]
@@ -9,6 +10,6 @@ pub(crate) enum Owed {
     Update { to: Node, entry: Entry },
     /// The table has recovered at this Store, which started it.
     Start { store: StoreNo },
-    /// The table is in this state.
-    Place { state: TableState },
+    /// This stands beside the rows.
+    Place { put: SidePut },
 }

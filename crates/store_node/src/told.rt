@@ -16,4 +16,6 @@ pub enum StoreFact {
     Made { table: TableNo },
     /// The table is dropped.
     Unmade { table: TableNo },
+    /// A client's subscription is kept, or that it has none.
+    Saved { table: TableNo },
 }

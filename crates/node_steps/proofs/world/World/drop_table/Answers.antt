@@ -15,15 +15,15 @@ use Rattle.node_steps.proofs.Done.{stays}
 use Rattle.node_steps.proofs.Rows.{any_ok, same_tables, none_left, over_first_ok}
 use Rattle.node_steps.proofs.world.World.drop_table.Goals as goal
 
-pub put_state-requires : goal.put_state-requires
-put_state-requires g c = let k = c.requires.held in record { held = (k.0, k.1) }
+pub put_beside-requires-clause-held : goal.put_beside-requires-clause-held
+put_beside-requires-clause-held g c = let k = c.requires.held in (k.0, k.1)
 
 pub close_table-requires : goal.close_table-requires
 close_table-requires g c = record { held = c.requires.held }
 
 pub returns-in-Store-clause-done : goal.returns-in-Store-clause-done
 returns-in-Store-clause-done g c w h =
-    subst (λ (n : Node). Comes g.D.Disk.state w (step w (events.Drop n c.args.table)) c.put_state.result c.put_state.new.self) (sym c.in-Store.is) (c.put_state.ensures.done w h)
+    subst (λ (n : Node). Comes g.D.Disk.state w (step w (events.Drop n c.args.table)) c.put_beside.result c.put_beside.new.self) (sym c.in-Store.is) (c.put_beside.ensures.done w h)
 
 pub returns-in-Client-clause-done : goal.returns-in-Client-clause-done
 returns-in-Client-clause-done g c w h =
@@ -53,11 +53,11 @@ returns-in-Gate-clause-rows g c w h =
     (any_ok c.only.result (AreLeft g.D.Disk.state g.D.Disk.images w tables tables) (none_left g.D.Disk.state g.D.Disk.images g.met.D.Disk.only_now w c.args.self.now.store h.store))
 
 pub returns-in-Store-clause-left : goal.returns-in-Store-clause-left
-returns-in-Store-clause-left g c w h = memory_other _ c.put_state.result c.put_state.ensures.memory
+returns-in-Store-clause-left g c w h = memory_other _ c.put_beside.result c.put_beside.ensures.memory
 
 pub returns-in-Store-clause-limit : goal.returns-in-Store-clause-limit
 returns-in-Store-clause-limit g c w n h plans =
-    memory_never c.put_state.result (λ code. (code ≡ 11) × SpendsAt n w c.args.node) c.put_state.ensures.memory
+    memory_never c.put_beside.result (λ code. (code ≡ 11) × SpendsAt n w c.args.node) c.put_beside.ensures.memory
 
 pub returns-in-Client-clause-limit : goal.returns-in-Client-clause-limit
 returns-in-Client-clause-limit g c w n h plans =
@@ -66,7 +66,7 @@ returns-in-Client-clause-limit g c w n h plans =
 
 pub returns-in-Store-clause-plans : goal.returns-in-Store-clause-plans
 returns-in-Store-clause-plans g c n plans =
-    plans_more g.D.Disk.state c.args.self.now c.put_state.new.self n c.put_state.ensures.clients plans
+    plans_more g.D.Disk.state c.args.self.now c.put_beside.new.self n c.put_beside.ensures.clients plans
 
 pub returns-in-Gate-clause-plans : goal.returns-in-Gate-clause-plans
 returns-in-Gate-clause-plans g c n plans =

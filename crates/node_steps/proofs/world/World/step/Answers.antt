@@ -3,7 +3,7 @@ use Rattle.std.specs.Prelude.{IfOk, IfErr}
 use Rattle.table_model.specs.declared.event.Event.{Event}
 use Rattle.table_model.specs.declared.event.Event.TheVariants as events
 use Rattle.table_model.specs.declared.table_state.TableState.TheVariants as states
-use Rattle.step_tables.specs.StoreMoves.{PutState}
+use Rattle.step_tables.specs.StoreMoves.{PutState, PutSub}
 use Rattle.world_tables.specs.Faults.{is_device_fault, is_fault_answer}
 use Rattle.fault_laws.proofs.Answered.{is_declaration}
 use Rattle.fault_laws.proofs.Well.{fine_step}
@@ -225,6 +225,40 @@ pub returns-in-Drop-clause-plans : goal.returns-in-Drop-clause-plans
 returns-in-Drop-clause-plans g c w n r h k =
     one_begun g.D.Disk.state w c.args.event.now n c.drop_table.new.self (subst (λ (e : Event). may_begin w e ≡ 1) (sym c.in-Drop.is) refl)
     (c.drop_table.ensures.plans n k)
+
+pub put_beside-requires-clause-held : goal.put_beside-requires-clause-held
+put_beside-requires-clause-held g c = let k = c.requires.held in (k.w, k.held)
+
+pub put_beside-requires-clause-client : goal.put_beside-requires-clause-client
+put_beside-requires-clause-client g c = subst (λ (e : Event). IsBuilt e) c.in-Save.is c.requires.built
+
+pub returns-in-Save-clause-done : goal.returns-in-Save-clause-done
+returns-in-Save-clause-done g c w r h out =
+    stepped g.D.Disk.state g.D.Disk.images w c.args.event.now (g.P.Depot.state c.args.depot.now).is_out c.args.self.now c.put_beside.new.self c.put_beside.result out
+    (subst (λ (e : Event). is_declaration e ≡ false) (sym c.in-Save.is) refl)
+    (subst (λ (e : Event). (lucks : Lucks) → is_device_fault w e lucks ≡ is_fault_answer (step w e lucks).answer) (sym c.in-Save.is) (λ lucks. refl))
+    (subst (λ (e : Event). Comes g.D.Disk.state w (step w e) c.put_beside.result c.put_beside.new.self) (sym c.in-Save.is) (c.put_beside.ensures.done w h))
+    c.put_beside.ensures.counted
+    (stay_placed g.D.Disk.state g.D.Disk.images w r c.args.event.now c.put_beside.result c.args.self.now c.put_beside.new.self c.in-Save.table
+    (PutSub c.in-Save.client c.in-Save.terms) (c.put_beside.ensures.rows w h))
+
+pub returns-in-Save-clause-limit : goal.returns-in-Save-clause-limit
+returns-in-Save-clause-limit g c w n r h k =
+    memory_limit c.put_beside.result c.put_beside.ensures.memory (λ code count. (code ≡ 11) × Spends n w c.args.event.now)
+
+pub returns-in-Save-clause-left : goal.returns-in-Save-clause-left
+returns-in-Save-clause-left g c w r h out =
+    left_if c.put_beside.result _ c.args.event.now
+    (never_left g.D.Disk.state w c.args.event.now (g.P.Depot.state c.args.depot.now).is_out c.args.self.now c.put_beside.new.self c.put_beside.result out c.put_beside.ensures.memory)
+
+pub returns-in-Save-clause-depot : goal.returns-in-Save-clause-depot
+returns-in-Save-clause-depot g c =
+    other_counted c.put_beside.result (memory_other c.put_beside.result c.put_beside.ensures.memory) (g.P.Depot.state c.args.depot.now).faults
+
+pub returns-in-Save-clause-plans : goal.returns-in-Save-clause-plans
+returns-in-Save-clause-plans g c w n r h k =
+    one_begun g.D.Disk.state w c.args.event.now n c.put_beside.new.self (subst (λ (e : Event). may_begin w e ≡ 1) (sym c.in-Save.is) refl)
+    (plans_kept g.D.Disk.state n c.args.self.now c.put_beside.new.self c.put_beside.ensures.clients k)
 
 pub returns-in-Link-clause-done : goal.returns-in-Link-clause-done
 returns-in-Link-clause-done g c w r h out =

@@ -1,53 +1,20 @@
-use Rattle.std.proofs.Common.{ℕ, Result, Ok, Err, refl, sym, ap, subst}
-use Rattle.std.proofs.lemmas.Result.{err_from_is_err_and}
-use Rattle.disk_trait.specs.Fuse.{inner_of, behind}
-use Rattle.row_store.specs.Spelling.{IsState}
-use Rattle.store_commit.specs.declared.fault.CommitFault.{CommitFault}
-use Rattle.step_tables.specs.StoreMoves.{PutState}
-use Rattle.store_node.specs.Calls.{Answers, put_step}
-use Rattle.store_node.specs.declared.fault.NodeFault.{NodeFault}
-use Rattle.store_node.proofs.Asks.{serves_takes}
-use Rattle.store_node.proofs.Handing.{node_ready}
-use Rattle.store_node.proofs.States.{is_state, short_in}
-use Rattle.store_node.proofs.Answering.{ready_idle, shortly, refusedly, puts_state}
+use Rattle.disk_trait.specs.Fuse.{inner_of}
+use Rattle.store_node.specs.Sides.{put_of}
+use Rattle.store_node.proofs.Delivering.{busy_to_place, places_node}
+use Rattle.store_node.proofs.Answering.{placed_at}
 use Rattle.store_node.proofs.node.TableNode.place.Goals as goal
 
-pub returns-in_err-reserve-clause-answers : goal.returns-in_err-reserve-clause-answers
-returns-in_err-reserve-clause-answers g c s t =
-    let old = c.args.self.now in
-    let p = err_from_is_err_and c.from_residual.result c.from_residual.ensures.1 in
-    rw (p.1, p.2) (shortly g.D.Disk.state g.D.Disk.images (λ f image left. g.met.D.Disk.only_now (inner_of f) image left) old c.requires.up c.requires.idle
-    (λ disk. put_step old.table disk (PutState c.args.state)) (λ _. ⊥) c.reserve.new.self old.messages c.reserve.ensures.same refl s t)
+pub returns-then-not-idle-clause-places : goal.returns-then-not-idle-clause-places
+returns-then-not-idle-clause-places g c s t =
+    busy_to_place g.D.Disk.state g.D.Disk.images (λ f image left. g.met.D.Disk.only_now (inner_of f) image left) c.args.self.now s.disk s.agenda t c.requires.up c.if-not-idle.ensures (put_of c.args.put)
+    c.at_work.result c.at_work.ensures
 
-pub begin_table-requires-clause-ready : goal.begin_table-requires-clause-ready
-begin_table-requires-clause-ready g c up = let n = c.requires.node in node_ready g.D.Disk.state g.D.Disk.images c.args.self.now n.0.disk n.0.agenda n.1 c.requires.up
+pub returns-clause-places : goal.returns-clause-places
+returns-clause-places g c s t =
+    placed_at g.D.Disk.state g.D.Disk.images (λ f image left. g.met.D.Disk.only_now (inner_of f) image left) c.args.self.now c.requires.up c.if-not-idle.ensures (put_of c.args.put) c.take_put.new.self
+    c.take_put.result c.take_put.ensures.answers s t
 
-pub begin_table-requires-clause-spelled : goal.begin_table-requires-clause-spelled
-begin_table-requires-clause-spelled g c = c.requires.node.1.spelled
-
-pub begin_table-requires-clause-state : goal.begin_table-requires-clause-state
-begin_table-requires-clause-state g c = subst (λ (n : ℕ). IsState n) (sym c.number_of.ensures) (is_state c.args.state)
-
-pub begin_table-requires-clause-short : goal.begin_table-requires-clause-short
-begin_table-requires-clause-short g c = short_in c.args.self.now.schema 2 c.number_of.result c.requires.node.1.short
-
-pub returns-in-Ok-clause-answers : goal.returns-in-Ok-clause-answers
-returns-in-Ok-clause-answers g c s t =
-    let old = c.args.self.now in
-    let ready = ready_idle g.D.Disk.state g.D.Disk.images (λ f image left. g.met.D.Disk.only_now (inner_of f) image left) old c.requires.up c.requires.idle (node_ready g.D.Disk.state g.D.Disk.images old s.disk s.agenda t c.requires.up) in
-    let k = c.in-Ok.ensures in
-    puts_state g.D.Disk.state g.D.Disk.images (λ f image left. g.met.D.Disk.only_now (inner_of f) image left) old c.requires.up c.requires.idle c.begin_table.new.self c.reserve.new.self old.messages c.args.state c.number_of.result c.number_of.ensures tt
-    (serves_takes (behind g.D.Disk.state) (λ f. g.D.Disk.images (inner_of f)) old.devs c.begin_table.new.self ⊥ _ (Ok tt) ready c.requires.idle k.takes k.scanned (λ is. absurd cc))
-    k.takes.taken c.reserve.ensures.same c.in_ok-reserve.ensures.room s t
-
-pub returns-in-Err-clause-answers : goal.returns-in-Err-clause-answers
-returns-in-Err-clause-answers g c s t =
-    let old = c.args.self.now in
-    let ready = ready_idle g.D.Disk.state g.D.Disk.images (λ f image left. g.met.D.Disk.only_now (inner_of f) image left) old c.requires.up c.requires.idle (node_ready g.D.Disk.state g.D.Disk.images old s.disk s.agenda t c.requires.up) in
-    let k = c.in-Err.ensures in
-    let r : Result (Unit {0}) CommitFault = Err c.in-Err.fault in
-    subst (λ (f : NodeFault). Answers g.D.Disk.state g.D.Disk.images s (put_step old.table s.disk (PutState c.args.state)) ⊥ old c.fail.new.self (Err f)) (sym c.fail.ensures.fault)
-    (refusedly g.D.Disk.state g.D.Disk.images (λ f image left. g.met.D.Disk.only_now (inner_of f) image left) old c.requires.up c.requires.idle c.begin_table.new.self c.reserve.new.self old.messages
-    (λ disk. put_step old.table disk (PutState c.args.state)) (λ _. ⊥) c.fail.new.self {T = Unit {0}} c.in-Err.fault (λ _ _ is. (k.takes.spent (ap (λ (f : CommitFault). Err f) is)).2)
-    (serves_takes (behind g.D.Disk.state) (λ f. g.D.Disk.images (inner_of f)) old.devs c.begin_table.new.self ⊥ _ r ready c.requires.idle k.takes k.scanned (λ is. absurd (k.takes.spent is).2))
-    c.reserve.ensures.same refl c.fail.ensures.disk c.fail.ensures.other s t)
+pub returns-clause-node : goal.returns-clause-node
+returns-clause-node g c =
+    let n = c.requires.node in
+    places_node g.D.Disk.state g.D.Disk.images (λ f image left. g.met.D.Disk.only_now (inner_of f) image left) n.0 (put_of c.args.put) c.args.self.now c.take_put.new.self c.take_put.result (returns-clause-places g c n.0 n.1)

@@ -314,6 +314,9 @@ module _ (R : World → World → Type 0) (here : (w : World) → R w w) (later 
   stepped w (events.Link c up) lucks plain = links w c up (client_at w c)
   stepped w (events.Create node table) lucks plain = creates w table lucks.shape lucks.calls node
   stepped w (events.Drop node table) lucks plain = drops w table lucks.shape lucks.calls node
+  stepped w (events.Save number table d terms) lucks plain = puts w number table (store.PutSub d terms) lucks.calls
+  stepped w (events.Ask d table) lucks plain = called w d (client.Next table [] []) lucks.shape lucks.calls tt
+  stepped w (events.Net it) lucks plain = here w
   stepped w (events.Show c table row) lucks plain = called w c (client.Show table row) lucks.shape lucks.calls tt
   stepped w (events.Sum c table row) lucks plain = called w c (client.Sum table row) lucks.shape lucks.calls tt
   stepped w (events.Sync c table) lucks plain = called w c (client.Sync table) lucks.shape lucks.calls tt

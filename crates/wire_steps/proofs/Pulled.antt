@@ -103,11 +103,14 @@ module _ (v : Wire) (c table : ℕ) (lucks : Lucks) where
       ∙ ap (λ (rows : List (List ℕ)). pull_step (with_arriving c (asking table (arriving_at v c)) v) c table tears rows lucks) (sym k))
 
 -- one that isn't ready tells and asks for none
-pub pulls_none : (v : Wire) (c table : ℕ) → is_client_ready v.world c ≡ false → (tears asks : List (List ℕ)) → tears ≡ [] → asks ≡ [] → (lucks : Lucks)
-    → wire_step v (events.Pull c table) lucks ≡ pull_step v c table tears asks lucks
-pulls_none v c table idle tears asks t k lucks =
-    pulls_next v c table lucks idle
-    ∙ (ap (λ (rows : List (List ℕ)). pull_step v c table rows [] lucks) (sym t) ∙ ap (λ (rows : List (List ℕ)). pull_step v c table tears rows lucks) (sym k))
+pub pulls_none : (v : Wire) (c table : ℕ) → is_client_ready v.world c ≡ false → (lucks : Lucks) → wire_step v (events.Pull c table) lucks ≡ wire_step v (events.Ask c table) lucks
+pulls_none v c table idle lucks = pulls_next v c table lucks idle
+
+-- and so does one that asks for the next change, whatever is torn
+pub asks_none : (v : Wire) (c table : ℕ) (tears asks : List (List ℕ)) → tears ≡ [] → asks ≡ [] → (lucks : Lucks)
+    → wire_step v (events.Ask c table) lucks ≡ pull_step v c table tears asks lucks
+asks_none v c table tears asks t k lucks =
+    (ap (λ (rows : List (List ℕ)). pull_step v c table rows [] lucks) (sym t) ∙ ap (λ (rows : List (List ℕ)). pull_step v c table tears rows lucks) (sym k))
 
 -- one that is ready keeps what it asks for
 module _ {D : Type 0} (state : D → DiskState) (v : Wire) (r : IsReached v) (world : World D) (h : Holds state v world) (c table : ℕ) (ready : is_client_ready v.world c ≡ true)

@@ -88,6 +88,7 @@ store_tells (told_facts.Back table version) = refl
 store_tells (told_facts.Recovered store table) = refl
 store_tells (told_facts.Made table) = refl
 store_tells (told_facts.Unmade table) = refl
+store_tells (told_facts.Saved table) = refl
 
 store_tells_none : (facts : List StoreFact) → flat_map torn_by_fact (map store_facts.fact_of facts) ≡ []
 store_tells_none [] = refl
@@ -442,6 +443,7 @@ spends_more n w (events.Resolve c table row version choice) k = number_more n w 
 spends_more n w (events.ResolveAll c table by) k = within_more n (length (client_pairs (client_at w c) table)) w c k
 spends_more n w (events.Create node table) k = at_more n w node k
 spends_more n w (events.Drop node table) k = at_more n w node k
+spends_more n w (events.Ask c table) k = number_more n w c k
 spends_more n w (events.Deliver packet) k = ⊎_elim (λ full. inl full) (λ c. inr (c.0, number_more n w c.0 c.1)) k
 spends_more n w other k = absurd k
 

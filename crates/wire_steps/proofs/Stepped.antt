@@ -107,9 +107,14 @@ pub pulls : (event : Event) (c table : ℕ) → kind_of event ≡ kind.Pull c ta
 pulls (events.Pull d other) c table e = cc
 pulls other c table e = absurd cc
 
+pub asks : (event : Event) (c table : ℕ) → kind_of event ≡ kind.Ask c table → event ≡ events.Ask c table
+asks (events.Ask d other) c table e = cc
+asks other c table e = absurd cc
+
 pub is_own : (event : Event) → kind_of event ≡ kind.Other → IsOwn event
 is_own (events.Deliver packet) e = absurd cc
 is_own (events.Pull c table) e = absurd cc
+is_own (events.Ask c table) e = absurd cc
 is_own other e = tt
 
 -- an event that isn't the nodes' own takes no disk from the depot

@@ -9,6 +9,7 @@ use Rattle.wire_steps.specs.declared.kinds.Kind.TheVariants as kind
 abbrev pub kind_of : Event → Kind
 kind_of (events.Deliver packet) = kind.Deliver packet
 kind_of (events.Pull client table) = kind.Pull client table
+kind_of (events.Ask client table) = kind.Ask client table
 kind_of other = kind.Other
 
 -- the node that is to be started

@@ -5,11 +5,12 @@ ghost use Rattle.wire_steps.specs.Kinds.{kind_of, started};
 use stab_base::{ClientNo, Node, TableNo};
 use table_model::Event;
 
-/// A delivery, a pull, or an event of the nodes alone.
+/// A delivery, a pull, with torn rows or without, or an event of the nodes alone.
 #[derive(Debug, Clone, Copy, PartialEq, Eq)]
 pub(crate) enum Kind {
     Deliver(u64),
     Pull(ClientNo, TableNo),
+    Ask(ClientNo, TableNo),
     Other,
 }
 
@@ -20,6 +21,7 @@ pub(crate) fn kind_of(event: &Event) -> Kind
     match event {
         Event::Deliver { packet } => Kind::Deliver(*packet),
         Event::Pull { client, table } => Kind::Pull(*client, *table),
+        Event::Ask { client, table } => Kind::Ask(*client, *table),
         _ => Kind::Other,
     }
 }

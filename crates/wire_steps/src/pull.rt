@@ -9,7 +9,7 @@ ghost use Rattle.wire_steps.specs.Steps.{HavePlansBelow};
 ghost use Rattle.node_steps.specs.Steps.{SpendsNumber};
 ghost use Rattle.wire_steps.specs.Calls.{Comes, Ends, IsLimitedBy, IsToPull, pull_step};
 
-use crate::memory::ask;
+use crate::memory::ask as ask_torn;
 use crate::world::World;
 use disk_trait::Disk;
 use node_steps::{Lines, WorldFault};
@@ -60,6 +60,20 @@ impl<D: Disk + Drop> World<D> {
         if self.nodes.is_client_ready(client) {
             return self.pull_torn(client, table);
         }
+        self.ask(client, table)
+    }
+
+    /// A client asks for the next change of a table, whatever rows of it are torn.
+    pub(crate) fn ask(&mut self, client: ClientNo, table: TableNo) -> Result<Lines, WorldFault>
+        requires held { (v : Wire) × IsReached v × Holds D.state v self.old }
+        ensures done { (v : Wire) → IsReached v → Holds D.state v self.old
+            → Comes D.state D.images v (wire_step v (events.Ask client table)) result self.old self.new }
+        ensures ends { (v : Wire) → IsReached v → Holds D.state v self.old
+            → Ends D.state D.images v (wire_step v (events.Ask client table)) result self.old self.new }
+        ensures limit { (v : Wire) (n : ℕ) → IsReached v → Holds D.state v self.old → HavePlansBelow D.state n self.old
+            → IsLimitedBy (SpendsNumber n v.world client) result }
+        ensures plans { (n : ℕ) → HavePlansBelow D.state n self.old → HavePlansBelow D.state (suc n) self.new }
+    {
         let none = Sequence::new(self.alloc);
         let next = Sequence::new(self.alloc);
         self.pull_rows(client, table, none, next)
@@ -76,7 +90,7 @@ impl<D: Disk + Drop> World<D> {
             → is_client_ready v.world client ≡ true → IsLimitedBy (SpendsNumber n v.world client) result }
         ensures plans { (n : ℕ) → HavePlansBelow D.state n self.old → HavePlansBelow D.state (suc n) self.new }
     {
-        let asked = ask(&mut self.arriving, self.alloc, client, table)?;
+        let asked = ask_torn(&mut self.arriving, self.alloc, client, table)?;
         let tears = Sequence::from_vec(asked.tears);
         let asks = Sequence::from_vec(asked.asks);
         self.pull_rows(client, table, tears, asks)

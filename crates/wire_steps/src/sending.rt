@@ -145,6 +145,7 @@ fn told(fact: StoreFact) -> Fact
         StoreFact::Recovered { store, table } => Fact::StoreRecovered { store, table },
         StoreFact::Made { table } => Fact::Made { table },
         StoreFact::Unmade { table } => Fact::Unmade { table },
+        StoreFact::Saved { table } => Fact::Saved { table },
     }
 }
 

@@ -51,7 +51,9 @@ fn note_fact(it: &mut Arriving, fact: &Fact) -> Result<(), AllocError>
         | Fact::Back { .. }
         | Fact::StoreRecovered { .. }
         | Fact::Made { .. }
-        | Fact::Unmade { .. } => Ok(()),
+        | Fact::Unmade { .. }
+        | Fact::Saved { .. }
+        | Fact::Notified { .. } => Ok(()),
     }
 }
 

@@ -95,6 +95,7 @@ impl<D: Disk + Drop> World<D> {
         match kind_of(event) {
             Kind::Deliver(packet) => self.deliver(packet),
             Kind::Pull(client, table) => self.pull(client, table),
+            Kind::Ask(client, table) => self.ask(client, table),
             Kind::Other => self.carry_out(depot, event),
         }
     }

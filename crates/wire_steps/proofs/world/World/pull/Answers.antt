@@ -1,9 +1,7 @@
 use Rattle.std.proofs.Common.{◌∙◌, refl, sym}
 use Rattle.table_model.specs.declared.event.Event.TheVariants as events
 use Rattle.wire_tables.specs.Wire.{wire_step}
-use Rattle.wire_steps.specs.Calls.{pull_step}
 use Rattle.wire_steps.proofs.Answered.{comes_as, ends_as}
-use Rattle.wire_steps.proofs.Delivered.{wire_reached}
 use Rattle.wire_steps.proofs.Pulled.{pulls_none}
 use Rattle.wire_steps.proofs.world.World.pull.Goals as goal
 
@@ -21,22 +19,17 @@ returns-then-is_client_ready-clause-ends g c v r h = c.pull_torn.ensures.ends v 
 pub returns-then-is_client_ready-clause-limit : goal.returns-then-is_client_ready-clause-limit
 returns-then-is_client_ready-clause-limit g c v n r h below = c.pull_torn.ensures.limit v n r h below (sym (c.is_client_ready.ensures v.world h.nodes) ∙ c.if-is_client_ready.true)
 
-pub pull_rows-requires-clause-held : goal.pull_rows-requires-clause-held
-pull_rows-requires-clause-held g c = let k = c.requires.held in record { kept = k.0; reached = wire_reached k.0 k.1; held = k.2 }
+pub ask-requires : goal.ask-requires
+ask-requires g c = record { held = c.requires.held }
 
 pub returns-clause-done : goal.returns-clause-done
 returns-clause-done g c v r h =
-    comes_as g.D.Disk.state g.D.Disk.images v v (wire_step v (events.Pull c.args.client c.args.table)) (pull_step v c.args.client c.args.table c.new-none.result c.new-next.result) c.pull_rows.result
-    c.args.self.now c.args.self.now c.pull_rows.new.self refl refl refl
-    (pulls_none v c.args.client c.args.table (sym (c.is_client_ready.ensures v.world h.nodes) ∙ c.if-is_client_ready.false) c.new-none.result c.new-next.result c.new-none.ensures c.new-next.ensures)
-    (c.pull_rows.ensures.done (record { kept = v; reached = wire_reached v r; held = h }))
+    comes_as g.D.Disk.state g.D.Disk.images v v (wire_step v (events.Pull c.args.client c.args.table)) (wire_step v (events.Ask c.args.client c.args.table)) c.ask.result
+    c.args.self.now c.args.self.now c.ask.new.self refl refl refl
+    (pulls_none v c.args.client c.args.table (sym (c.is_client_ready.ensures v.world h.nodes) ∙ c.if-is_client_ready.false)) (c.ask.ensures.done v r h)
 
 pub returns-clause-ends : goal.returns-clause-ends
 returns-clause-ends g c v r h =
-    ends_as g.D.Disk.state g.D.Disk.images v v (wire_step v (events.Pull c.args.client c.args.table)) (pull_step v c.args.client c.args.table c.new-none.result c.new-next.result) c.pull_rows.result
-    c.args.self.now c.args.self.now c.pull_rows.new.self refl refl
-    (pulls_none v c.args.client c.args.table (sym (c.is_client_ready.ensures v.world h.nodes) ∙ c.if-is_client_ready.false) c.new-none.result c.new-next.result c.new-none.ensures c.new-next.ensures)
-    (c.pull_rows.ensures.ends (record { kept = v; reached = wire_reached v r; held = h }))
-
-pub returns-clause-limit : goal.returns-clause-limit
-returns-clause-limit g c v n r h below = c.pull_rows.ensures.limit (record { kept = v; reached = wire_reached v r; held = h }) n below
+    ends_as g.D.Disk.state g.D.Disk.images v v (wire_step v (events.Pull c.args.client c.args.table)) (wire_step v (events.Ask c.args.client c.args.table)) c.ask.result
+    c.args.self.now c.args.self.now c.ask.new.self refl refl
+    (pulls_none v c.args.client c.args.table (sym (c.is_client_ready.ensures v.world h.nodes) ∙ c.if-is_client_ready.false)) (c.ask.ensures.ends v r h)

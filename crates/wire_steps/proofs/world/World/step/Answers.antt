@@ -2,7 +2,7 @@ use Rattle.std.proofs.Common.{suc, ◌+◌, arith, sym, refl}
 use Rattle.table_model.specs.declared.event.Event.TheVariants as events
 use Rattle.wire_tables.specs.Wire.{wire_step}
 use Rattle.node_steps.specs.Fits.{IsOwn}
-use Rattle.wire_steps.proofs.Stepped.{delivers, pulls, is_own, event_stepped, event_over, event_limited, event_plans, plans_as, number_more, event_left, event_counted, own_left, ends_apart, own_apart}
+use Rattle.wire_steps.proofs.Stepped.{delivers, pulls, asks, is_own, event_stepped, event_over, event_limited, event_plans, plans_as, number_more, event_left, event_counted, own_left, ends_apart, own_apart}
 use Rattle.wire_steps.proofs.Sounds.{reached_by, goes_on_sound}
 use Rattle.wire_steps.proofs.world.World.step.Goals as goal
 
@@ -11,6 +11,9 @@ deliver-requires g c = record { held = (c.requires.held.v, c.requires.held.reach
 
 pub pull-requires : goal.pull-requires
 pull-requires g c = record { held = (c.requires.held.v, c.requires.held.reached, c.requires.held.held) }
+
+pub ask-requires : goal.ask-requires
+ask-requires g c = record { held = (c.requires.held.v, c.requires.held.reached, c.requires.held.held) }
 
 pub carry_out-requires-clause-own : goal.carry_out-requires-clause-own
 carry_out-requires-clause-own g c = is_own c.args.event.now (sym c.in-Other.ensures)
@@ -110,3 +113,45 @@ returns-in-Pull-clause-apart g c other =
 
 pub returns-in-Other-clause-apart : goal.returns-in-Other-clause-apart
 returns-in-Other-clause-apart g c other = own_apart c.carry_out.result (IsOwn c.args.event.now) (is_own c.args.event.now (sym c.in-Other.ensures)) other
+
+pub returns-in-Ask-clause-done : goal.returns-in-Ask-clause-done
+returns-in-Ask-clause-done g c v r h out =
+    event_stepped g.D.Disk.state g.D.Disk.images v r (events.Ask c.in-Ask.client c.in-Ask.table) (λ lucks. refl) _ c.args.self.now c.ask.new.self out
+    c.args.event.now (asks c.args.event.now c.in-Ask.client c.in-Ask.table (sym c.in-Ask.ensures)) c.ask.result (c.ask.ensures.done v r h)
+
+pub returns-in-Ask-clause-over : goal.returns-in-Ask-clause-over
+returns-in-Ask-clause-over g c v r h out =
+    event_over g.D.Disk.state g.D.Disk.images v r (events.Ask c.in-Ask.client c.in-Ask.table) (λ lucks. refl) _ c.args.self.now c.ask.new.self out
+    c.args.event.now (asks c.args.event.now c.in-Ask.client c.in-Ask.table (sym c.in-Ask.ensures)) c.ask.result (c.ask.ensures.ends v r h)
+
+pub returns-in-Ask-clause-limit : goal.returns-in-Ask-clause-limit
+returns-in-Ask-clause-limit g c v n r h below =
+    event_limited n v.world (events.Ask c.in-Ask.client c.in-Ask.table) c.args.event.now (asks c.args.event.now c.in-Ask.client c.in-Ask.table (sym c.in-Ask.ensures)) c.ask.result
+    (number_more n v.world c.in-Ask.client c.ask.result (c.ask.ensures.limit v n r h below))
+
+pub returns-in-Ask-clause-plans : goal.returns-in-Ask-clause-plans
+returns-in-Ask-clause-plans g c v n r h below =
+    event_plans g.D.Disk.state n v.world (events.Ask c.in-Ask.client c.in-Ask.table) c.args.event.now (asks c.args.event.now c.in-Ask.client c.in-Ask.table (sym c.in-Ask.ensures)) c.ask.new.self
+    (plans_as g.D.Disk.state (suc n) (1 + n) (omega arith) c.ask.new.self (c.ask.ensures.plans n below))
+
+pub returns-in-Ask-clause-left : goal.returns-in-Ask-clause-left
+returns-in-Ask-clause-left g c v r h out =
+    event_left g.D.Disk.state g.D.Disk.images v (wire_step v (events.Ask c.in-Ask.client c.in-Ask.table)) c.args.self.now c.ask.new.self _ (events.Ask c.in-Ask.client c.in-Ask.table) c.args.event.now
+    (asks c.args.event.now c.in-Ask.client c.in-Ask.table (sym c.in-Ask.ensures)) (λ own. own) c.ask.result (c.ask.ensures.ends v r h)
+
+pub returns-in-Ask-clause-depot : goal.returns-in-Ask-clause-depot
+returns-in-Ask-clause-depot g c =
+    let x = c.requires.held in
+    event_counted g.D.Disk.state g.D.Disk.images x.v (wire_step x.v (events.Ask c.in-Ask.client c.in-Ask.table)) c.args.self.now c.ask.new.self _ c.ask.result
+    (c.ask.ensures.ends x.v x.reached x.held)
+
+pub returns-in-Ask-clause-sound : goal.returns-in-Ask-clause-sound
+returns-in-Ask-clause-sound g c run built h out =
+    goes_on_sound g.D.Disk.state g.D.Disk.images run c.args.event.now built c.requires.built _ c.args.self.now c.ask.new.self c.ask.result
+    (returns-in-Ask-clause-done g c _ (reached_by run built) h out)
+
+pub returns-in-Ask-clause-apart : goal.returns-in-Ask-clause-apart
+returns-in-Ask-clause-apart g c other =
+    let x = c.requires.held in
+    ends_apart g.D.Disk.state g.D.Disk.images x.v (wire_step x.v (events.Ask c.in-Ask.client c.in-Ask.table)) c.args.self.now c.ask.new.self c.ask.result
+    (c.ask.ensures.ends x.v x.reached x.held)

@@ -3,13 +3,13 @@ ghost use Rattle.std.specs.Prelude.{IfOk, IfErr, OnOk, OnErr, IsErrOf};
 ghost use Rattle.std.specs.Ordering.{nat_cmp};
 ghost use Rattle.std.specs.BTreeMap as tree;
 ghost use Rattle.row_value.specs.declared.schema.Schema.{Schema as ASchema};
-ghost use Rattle.gate_tables.specs.Gate.{Gateway as AGateway, Running, is_spent, tokens};
+ghost use Rattle.gate_tables.specs.Gate.{Gateway as AGateway, Running, is_spent, ticked, tokens};
 ghost use Rattle.gateway_core.specs.declared.gate_fault.GateFault.TheVariants.{Spent};
 ghost use Rattle.gate_host.specs.Moves.{gate_in, is_up_in, up, down, most_starts};
 ghost use Rattle.gate_host.specs.Moves.{with_schema, with_gate, with_crash, with_start, done_by, with_done};
 ghost use Rattle.gate_host.specs.Holds.{HoldsGates, is_up_at};
 
-use crate::one::{start, take};
+use crate::one::{start, take, tick};
 use crate::placing::{has_table, make_gate, named, place_all};
 use gateway_core::{GateFault, Gateway, NamedTable, Sent};
 use ring_map::Ring;
@@ -146,6 +146,28 @@ impl Gates {
     {
         match self.gates.get_mut(&gate) {
             Some(gateway) => take(gateway, from, message),
+            None => unreachable!(),
+        }
+    }
+
+    /// A tick at a gateway that is up: each timer counts, and what is sent to the clients whose timers fire, in order.
+    ///
+    /// Nothing changes where memory is refused.
+    pub fn tick(&mut self, gate: GateNo) -> Result<Sequence<Sent>, AllocError>
+        requires { is_up_at self.old gate ≡ true }
+        ensures held { (stores : List ℕ) (schemas : List (ℕ × ASchema)) (gates : List (ℕ × AGateway)) (starts : ℕ)
+            (running : Running) → HoldsGates stores schemas gates self.old
+            → gate_in gates gate ≡ Some (up starts running) → OnOk result (HoldsGates stores schemas
+            (with_done gate starts (ticked running) gates) self.new) }
+        ensures sent { (stores : List ℕ) (schemas : List (ℕ × ASchema)) (gates : List (ℕ × AGateway)) (starts : ℕ)
+            (running : Running) → HoldsGates stores schemas gates self.old
+            → gate_in gates gate ≡ Some (up starts running)
+            → IfOk result (λ sent. sent ≡ (ticked running).sends) }
+        ensures kept { (stores : List ℕ) (schemas : List (ℕ × ASchema)) (gates : List (ℕ × AGateway))
+            → HoldsGates stores schemas gates self.old → OnErr result (HoldsGates stores schemas gates self.new) }
+    {
+        match self.gates.get_mut(&gate) {
+            Some(gateway) => tick(gateway),
             None => unreachable!(),
         }
     }

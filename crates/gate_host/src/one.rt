@@ -1,7 +1,7 @@
 //! Calls of one gateway.
 ghost use Rattle.std.specs.Prelude.{◌≡◌, ◌↔◌, ℕ, Bool, true, false, Option, Some, None, is_some};
 ghost use Rattle.std.specs.Prelude.{IfOk, IfErr, OnOk, OnErr, IsErrOf};
-ghost use Rattle.gate_tables.specs.Gate.{Gateway as AGateway, Running, Directory, Done, crashed, taken, tokens};
+ghost use Rattle.gate_tables.specs.Gate.{Gateway as AGateway, Running, Directory, Done, crashed, taken, ticked, tokens};
 ghost use Rattle.gate_tables.specs.Gate.{is_spent};
 ghost use Rattle.gateway_core.specs.State.{state_of};
 ghost use Rattle.gateway_core.specs.declared.gate_fault.GateFault.TheVariants.{Spent};
@@ -10,6 +10,7 @@ ghost use Rattle.gate_host.specs.Holds.{IsGate};
 
 use gateway_core::{GateFault, Gateway, Sent};
 use stab_base::{Node, Sequence};
+use std::alloc::AllocError;
 use table_model::Message;
 
 /// Lets a message come in, and hands out what it made the gateway send.
@@ -33,6 +34,22 @@ pub(crate) fn take(
         → (IsErrOf result (Spent last) ↔ ((last ≡ tokens) × (is_spent running from message.now ≡ true))) }
 {
     gateway.deliver(from, message)?;
+    Ok(gateway.take_out().messages)
+}
+
+/// Lets a tick come, and hands out what it made the gateway send.
+pub(crate) fn tick(gateway: &mut Gateway) -> Result<Sequence<Sent>, AllocError>
+    requires { is_some (state_of gateway.old).running ≡ true }
+    ensures held { (directory : Directory) (number starts : ℕ) (running : Running)
+        → IsGate directory number (up starts running) gateway.old
+        → OnOk result (IsGate directory number (up starts (ticked running).running) gateway.new) }
+    ensures sent { (directory : Directory) (number starts : ℕ) (running : Running)
+        → IsGate directory number (up starts running) gateway.old
+        → IfOk result (λ sent. sent ≡ (ticked running).sends) }
+    ensures kept { (directory : Directory) (number : ℕ) (state : AGateway)
+        → IsGate directory number state gateway.old → OnErr result (IsGate directory number state gateway.new) }
+{
+    gateway.tick()?;
     Ok(gateway.take_out().messages)
 }
 

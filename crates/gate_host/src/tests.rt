@@ -4,7 +4,9 @@ use row_value::{Schema, Scheme};
 use stab_base::{Bytes, GateNo, Node, Sequence, StoreNo, TableNo};
 use std::alloc::{AllocError, Global};
 use std::test::Fail;
-use table_model::{Message, PullRequest, RegisterDevice};
+use table_model::{
+    Message, PullRequest, RegisterDevice, RestoreClientSubscriptions, TableSubscription,
+};
 
 /// What is declared of the gateways and done to them. Messages are client 3's.
 #[derive(Debug, Clone, Copy, PartialEq, Eq)]
@@ -18,6 +20,9 @@ enum Step {
     Register(GateNo),
     /// The gateway, the token and the table.
     Pull(GateNo, u64, TableNo),
+    /// Store 1 answers that it keeps a subscription to table 1, with this period.
+    Kept(GateNo, u32),
+    Tick(GateNo),
 }
 
 /// What a gateway sends, in short.
@@ -31,6 +36,8 @@ enum Seen {
     Answer(TableNo, u8, u32, u64),
     /// To a Store: the token and the table.
     Pull(StoreNo, u64, TableNo),
+    /// To the client: the tables that changed.
+    Notify(u64),
     Other,
 }
 
@@ -40,6 +47,7 @@ fn message_in_short(sent: &Sent) -> Seen {
             Seen::Answer(m.table, m.answered, m.status, m.token)
         }
         (Node::Store(store), Message::PullRequest(m)) => Seen::Pull(*store, m.token, m.table),
+        (Node::Client(3), Message::Notify(m)) => Seen::Notify(m.bitmap),
         _ => Seen::Other,
     }
 }
@@ -77,11 +85,34 @@ fn pull(token: u64, table: TableNo) -> Message {
     })
 }
 
-fn take(gates: &mut Gates, gate: GateNo, message: &Message) -> Result<Seen, GateFault> {
+fn kept(alloc: Global, period: u32) -> Result<Message, AllocError> {
+    let mut subscriptions = Sequence::new(alloc);
+    subscriptions.push(TableSubscription {
+        table: 1,
+        period,
+        tolerance: 0,
+    })?;
+    Ok(Message::RestoreClientSubscriptions(RestoreClientSubscriptions {
+        client: 3,
+        gate: 1,
+        reply: true,
+        subscriptions,
+    }))
+}
+
+fn take(gates: &mut Gates, gate: GateNo, from: Node, message: &Message) -> Result<Seen, GateFault> {
     if !gates.is_up(gate) {
         return Ok(Seen::Down);
     }
-    let sent = gates.deliver(gate, Node::Client(3), message)?;
+    let sent = gates.deliver(gate, from, message)?;
+    Ok(in_short(sent.as_slice()))
+}
+
+fn tick(gates: &mut Gates, gate: GateNo) -> Result<Seen, AllocError> {
+    if !gates.is_up(gate) {
+        return Ok(Seen::Down);
+    }
+    let sent = gates.tick(gate)?;
     Ok(in_short(sent.as_slice()))
 }
 
@@ -94,9 +125,15 @@ fn act(alloc: Global, gates: &mut Gates, step: Step) -> Result<Seen, GateFault> 
         Step::Start(gate) => gates.start(gate)?,
         Step::Register(gate) => {
             let message = Message::RegisterDevice(RegisterDevice { client: 3 });
-            return take(gates, gate, &message);
+            return take(gates, gate, Node::Client(3), &message);
         }
-        Step::Pull(gate, token, table) => return take(gates, gate, &pull(token, table)),
+        Step::Pull(gate, token, table) => {
+            return take(gates, gate, Node::Client(3), &pull(token, table));
+        }
+        Step::Kept(gate, period) => {
+            return take(gates, gate, Node::Store(1), &kept(alloc, period)?);
+        }
+        Step::Tick(gate) => return Ok(tick(gates, gate)?),
     }
     Ok(Seen::Nothing)
 }
@@ -161,6 +198,26 @@ const PLACES: [(Step, Seen); 22] = [
     (Step::Register(3), Seen::Several(3)),
 ];
 
+/// A restored timer is marked: it fires at its period, and then no more. A crash takes it away.
+const TICKS: [(Step, Seen); 16] = [
+    (Step::Store(1), Seen::Nothing),
+    (Step::Table(1, b'a'), Seen::Nothing),
+    (Step::Tick(1), Seen::Down),
+    (Step::Gate(1), Seen::Nothing),
+    (Step::Tick(1), Seen::Nothing),
+    (Step::Register(1), Seen::Several(2)),
+    (Step::Kept(1, 2), Seen::Nothing),
+    (Step::Tick(1), Seen::Nothing),
+    (Step::Tick(1), Seen::Notify(1)),
+    (Step::Tick(1), Seen::Nothing),
+    (Step::Tick(1), Seen::Nothing),
+    (Step::Kept(1, 1), Seen::Nothing),
+    (Step::Crash(1), Seen::Nothing),
+    (Step::Tick(1), Seen::Down),
+    (Step::Start(1), Seen::Nothing),
+    (Step::Tick(1), Seen::Nothing),
+];
+
 #[test]
 fn a_session_stays_until_its_gateway_crashes(rt: HostRuntime) -> Result<(), Fail> {
     assert_eq!(rt; first_other(rt.alloc(), &TOKENS)?, None);
@@ -170,6 +227,12 @@ fn a_session_stays_until_its_gateway_crashes(rt: HostRuntime) -> Result<(), Fail
 #[test]
 fn each_gateway_knows_where_all_declared_tables_are(rt: HostRuntime) -> Result<(), Fail> {
     assert_eq!(rt; first_other(rt.alloc(), &PLACES)?, None);
+    Ok(())
+}
+
+#[test]
+fn a_marked_timer_fires_once_at_its_period(rt: HostRuntime) -> Result<(), Fail> {
+    assert_eq!(rt; first_other(rt.alloc(), &TICKS)?, None);
     Ok(())
 }
 

@@ -1,5 +1,5 @@
-//! A Store that crashes inside each device write of an update and of its recovery. Expected are the rules that the guide
-//! states: of a write's four calls the first two and less leave it undone, but where a byte of the third lands.
+//! A Store that crashes inside each device write of an update and of its recovery. Expected are the rules that the
+//! guide states: of a write's four calls the first two and less leave it undone, but where a byte of the third lands.
 use crate::runs::texts;
 use crate::stops::{Played, STOPS, Stop, add, lands};
 use std::alloc::Global;

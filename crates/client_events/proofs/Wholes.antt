@@ -62,6 +62,8 @@ fault_or (answers.Refused refusals.Offline) = inr (λ bad. absurd cc)
 fault_or (answers.Refused (refusals.Outstanding number)) = inr (λ bad. absurd cc)
 fault_or (answers.Refused (refusals.Conflicted version)) = inr (λ bad. absurd cc)
 fault_or (answers.Refused (refusals.NoPacket sent)) = inr (λ bad. absurd cc)
+fault_or (answers.Refused (refusals.Unregistered client)) = inr (λ bad. absurd cc)
+fault_or (answers.Refused (refusals.BadSelection place)) = inr (λ bad. absurd cc)
 
 -- ---- what it makes of the clients
 

@@ -163,7 +163,7 @@ module _ (w : World) (f : IsFair w) where
   step_fair (events.Drop node table) built lucks = dropped_fair table lucks.shape lucks.calls node
   step_fair (events.Save number table d terms) built lucks = puts_fair number table (store.PutSub d terms) lucks.calls
   step_fair (events.Ask d table) built lucks = call_fair w f d (client.Next table [] []) lucks.shape lucks.calls (client_at w d) tt
-  step_fair (events.Net it) built lucks = absurd built
+  step_fair (events.Net it) built lucks = f
   step_fair (events.Show c table row) built lucks = call_fair w f c (client.Show table row) lucks.shape lucks.calls (client_at w c) tt
   step_fair (events.Sum c table row) built lucks = call_fair w f c (client.Sum table row) lucks.shape lucks.calls (client_at w c) tt
   step_fair (events.Sync c table) built lucks = call_fair w f c (client.Sync table) lucks.shape lucks.calls (client_at w c) tt

@@ -25,7 +25,6 @@ IsBuilt (events.Table table schema) = IsMade table schema
 IsBuilt (events.Draft table schema) = IsMade table schema
 IsBuilt (events.Client client gate tables) = IsClient client
 IsBuilt (events.Save store table client terms) = IsClient client
-IsBuilt (events.Net it) = ⊥
 IsBuilt other = Unit {0}
 
 -- such events lead to this world, with some lucks

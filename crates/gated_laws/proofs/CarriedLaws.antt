@@ -38,7 +38,8 @@ line_same event other f line a = refl
 event_same : (sent whole : List Node) (event other : Event) → IsEventCarried sent whole event other → (line : Line) (a : Asked) → line_asked event line a ≡ line_asked other line a
 event_same sent whole (events.Deliver k) other e line a =
     by_brought (λ (x : Event). line_asked (events.Deliver k) line a ≡ line_asked x line a) whole e.0 (λ n at. line_same (events.Deliver k) (events.Deliver n) (λ answer b. refl) line a)
-    (λ table. line_same (events.Deliver k) (events.Create e.0 table) (λ answer b. refl) line a) (λ table. line_same (events.Deliver k) (events.Drop e.0 table) (λ answer b. refl) line a) other e.3
+    (λ table. line_same (events.Deliver k) (events.Create e.0 table) (λ answer b. refl) line a) (λ table. line_same (events.Deliver k) (events.Drop e.0 table) (λ answer b. refl) line a)
+    (λ store table client terms at. line_same (events.Deliver k) (events.Save store table client terms) (λ answer b. refl) line a) other e.3
 event_same sent whole (events.Create node table) other e line a = absurd e
 event_same sent whole (events.Client c gate tables) other e line a =
     line_same (events.Client c gate tables) (events.Client c None tables) (λ answer b. refl) line a ∙ ap (λ (x : Event). line_asked x line a) (sym e)
@@ -58,6 +59,7 @@ sent_asks : (event : Event) (told : List Fact) → AllByRecursion (λ (fact : Fa
     → (lines_asked event (map FactLine told) a ≡ a) × LinesAsked event a (map FactLine told)
 sent_asks event [] all a = (refl, tt)
 sent_asks event (facts.Sent k from to name ∷ told) all a = let rest = sent_asks event told all.1 a in (rest.0, (tt, rest.1))
+sent_asks event (facts.Saved table ∷ told) all a = let rest = sent_asks event told all.1 a in (rest.0, (tt, rest.1))
 sent_asks event (other ∷ told) all a = absurd (let e : false ≡ true = all.0 in cc)
 
 only_asks : (event : Event) (lines : List Line) → IsLone event lines → (a : Asked) → (lines_asked event lines a ≡ a) × LinesAsked event a lines
@@ -93,7 +95,8 @@ module _ (c t : ℕ) where
   down_carried sent whole (events.Deliver k) other answer e =
       by_brought (λ (x : Event). goes_down c sent (events.Deliver k) answer ≡ goes_down c whole x answer) whole e.0
       (λ n at. ap (λ (to : Option Node). has_fault answer && goes_to c to) (e.2 ∙ sym at)) (λ table. ap (λ (to : Option Node). has_fault answer && goes_to c to) e.2)
-      (λ table. ap (λ (to : Option Node). has_fault answer && goes_to c to) e.2) other e.3
+      (λ table. ap (λ (to : Option Node). has_fault answer && goes_to c to) e.2)
+      (λ store table client terms at. ap (λ (to : Option Node). has_fault answer && goes_to c to) (e.2 ∙ ap (λ (x : Node). Some x) (sym at))) other e.3
   down_carried sent whole (events.Create node table) other answer e = absurd e
   down_carried sent whole (events.Client d gate tables) other answer e = ap (λ (x : Event). goes_down c whole x answer) (sym e)
   down_carried sent whole (events.Work (nodes.Gate n)) other answer e = absurd e
@@ -105,7 +108,8 @@ module _ (c t : ℕ) where
   phase_carried : (sent whole : List Node) (event other : Event) (answer : Option Answer) (before : Bool) → IsEventCarried sent whole event other
       → phase_by c t event answer before ≡ phase_by c t other answer before
   phase_carried sent whole (events.Deliver k) other answer before e =
-      by_brought (λ (x : Event). phase_by c t (events.Deliver k) answer before ≡ phase_by c t x answer before) whole e.0 (λ n at. refl) (λ table. refl) (λ table. refl) other e.3
+      by_brought (λ (x : Event). phase_by c t (events.Deliver k) answer before ≡ phase_by c t x answer before) whole e.0 (λ n at. refl) (λ table. refl) (λ table. refl)
+      (λ store table client terms at. refl) other e.3
   phase_carried sent whole (events.Create node table) other answer before e = absurd e
   phase_carried sent whole (events.Client d gate tables) other answer before e = ap (λ (x : Event). phase_by c t x answer before) (sym e)
   phase_carried sent whole (events.Work (nodes.Gate n)) other answer before e = absurd e
@@ -202,7 +206,7 @@ module _ (sent whole : List Node) (q r : Quiet) (a : IsLouder sent whole q r) wh
   -- ---- both
 
   stores_carried : (event other : Event) → IsEventCarried sent whole event other → stores_after q event ≡ stores_after r other
-  stores_carried (events.Deliver k) other e = by_brought (λ (x : Event). q.stores ≡ stores_after r x) whole e.0 (λ n at. b.stores) (λ table. b.stores) (λ table. b.stores) other e.3
+  stores_carried (events.Deliver k) other e = by_brought (λ (x : Event). q.stores ≡ stores_after r x) whole e.0 (λ n at. b.stores) (λ table. b.stores) (λ table. b.stores) (λ store table client terms at. b.stores) other e.3
   stores_carried (events.Create node table) other e = absurd e
   stores_carried (events.Client c gate tables) other e = b.stores ∙ ap (stores_after r) (sym e)
   stores_carried (events.Work (nodes.Gate n)) other e = absurd e
@@ -212,7 +216,7 @@ module _ (sent whole : List Node) (q r : Quiet) (a : IsLouder sent whole q r) wh
   stores_carried event other e = stores_same sent whole q r b event ∙ ap (stores_after r) (sym e)
 
   held_carried : (event other : Event) (answer : Option Answer) → IsEventCarried sent whole event other → held_after q event answer ≡ held_after r other answer
-  held_carried (events.Deliver k) other answer e = by_brought (λ (x : Event). q.held ≡ held_after r x answer) whole e.0 (λ n at. b.held) (λ table. b.held) (λ table. b.held) other e.3
+  held_carried (events.Deliver k) other answer e = by_brought (λ (x : Event). q.held ≡ held_after r x answer) whole e.0 (λ n at. b.held) (λ table. b.held) (λ table. b.held) (λ store table client terms at. b.held) other e.3
   held_carried (events.Create node table) other answer e = absurd e
   held_carried (events.Client c gate tables) other answer e = b.held ∙ ap (λ (x : Event). held_after r x answer) (sym e)
   held_carried (events.Work (nodes.Gate n)) other answer e = absurd e
@@ -224,7 +228,8 @@ module _ (sent whole : List Node) (q r : Quiet) (a : IsLouder sent whole q r) wh
   loud_carried : (event other : Event) (answer : Option Answer) (x : Node) → IsEventCarried sent whole event other → Among (loud_after r other answer) x → Among (loud_after q event answer) x
   loud_carried (events.Deliver k) other answer x e m =
       by_brought (λ (y : Event). Among (loud_after r y answer) x → Among (loud_after q (events.Deliver k) answer) x) whole e.0 (λ n at. deliver_comes sent whole q r b k n x (at ∙ sym e.2))
-      (λ table more. more_comes sent whole q r b (slice_get q.sent k) x (b.loud x more)) (λ table more. more_comes sent whole q r b (slice_get q.sent k) x (b.loud x more)) other e.3 m
+      (λ table more. more_comes sent whole q r b (slice_get q.sent k) x (b.loud x more)) (λ table more. more_comes sent whole q r b (slice_get q.sent k) x (b.loud x more))
+      (λ store table client terms at more. more_comes sent whole q r b (slice_get q.sent k) x (b.loud x more)) other e.3 m
   loud_carried (events.Create node table) other answer x e m = absurd e
   loud_carried (events.Client c gate tables) other answer x e m = b.loud x (subst (λ (y : Event). Among (loud_after r y answer) x) e m)
   loud_carried (events.Work (nodes.Gate n)) other answer x e m = absurd e
@@ -253,7 +258,7 @@ module _ (sent whole : List Node) (q r : Quiet) (a : IsLouder sent whole q r) wh
   gates_carried (events.Deliver k) other answer e =
       by_brought (λ (x : Event). NoGates (loud_after r x answer)) whole e.0
       (λ n at. subst (λ (o : Option Node). NoGates (comes_to r o)) (sym (ap (λ (ns : List Node). slice_get ns n) b.whole_is ∙ at)) (comes_no_gates e.0 e.1)) (λ table. a.gates) (λ table. a.gates)
-      other e.3
+      (λ store table client terms at. a.gates) other e.3
   gates_carried (events.Create node table) other answer e = absurd e
   gates_carried (events.Client c gate tables) other answer e = subst (λ (x : Event). NoGates (loud_after r x answer)) (sym e) a.gates
   gates_carried (events.Work (nodes.Gate n)) other answer e = absurd e

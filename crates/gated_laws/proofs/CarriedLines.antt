@@ -23,12 +23,15 @@ use Rattle.gated_laws.specs.Carried.{without_sent, AreLinesCarried}
 
 module _ (P : List Line → List Line → Type 0) (none : P [] []) (same : (line : Line) (xs ys : List Line) → P xs ys → P (line ∷ xs) (line ∷ ys))
     (left : (k : ℕ) (from to : Node) (name : MessageName) (xs ys : List Line) → P xs ys → P (FactLine (facts.Sent k from to name) ∷ xs) ys)
-    (right : (k : ℕ) (from to : Node) (name : MessageName) (xs ys : List Line) → P xs ys → P xs (FactLine (facts.Sent k from to name) ∷ ys)) where
+    (right : (k : ℕ) (from to : Node) (name : MessageName) (xs ys : List Line) → P xs ys → P xs (FactLine (facts.Sent k from to name) ∷ ys))
+    (saved_left : (table : ℕ) (xs ys : List Line) → P xs ys → P (FactLine (facts.Saved table) ∷ xs) ys)
+    (saved_right : (table : ℕ) (xs ys : List Line) → P xs ys → P xs (FactLine (facts.Saved table) ∷ ys)) where
   -- behind packets' lines, the same fact
   seeks : (fact : Fact) (told others : List Fact) → ((more : List Fact) → without_sent told ≡ without_sent more → P (map FactLine told) (map FactLine more))
       → fact ∷ without_sent told ≡ without_sent others → P (FactLine fact ∷ map FactLine told) (map FactLine others)
   seeks fact told [] rest e = absurd cc
   seeks fact told (facts.Sent k from to name ∷ others) rest e = right k from to name (FactLine fact ∷ map FactLine told) (map FactLine others) (seeks fact told others rest e)
+  seeks fact told (facts.Saved table ∷ others) rest e = saved_right table (FactLine fact ∷ map FactLine told) (map FactLine others) (seeks fact told others rest e)
   seeks fact told (other ∷ others) rest e =
       let first : fact ≡ other = cc in
       let more : without_sent told ≡ without_sent others = cc in
@@ -37,8 +40,10 @@ module _ (P : List Line → List Line → Type 0) (none : P [] []) (same : (line
   by_facts : (told others : List Fact) → without_sent told ≡ without_sent others → P (map FactLine told) (map FactLine others)
   by_facts [] [] e = none
   by_facts [] (facts.Sent k from to name ∷ others) e = right k from to name [] (map FactLine others) (by_facts [] others e)
+  by_facts [] (facts.Saved table ∷ others) e = saved_right table [] (map FactLine others) (by_facts [] others e)
   by_facts [] (other ∷ others) e = absurd cc
   by_facts (facts.Sent k from to name ∷ told) others e = left k from to name (map FactLine told) (map FactLine others) (by_facts told others e)
+  by_facts (facts.Saved table ∷ told) others e = saved_left table (map FactLine told) (map FactLine others) (by_facts told others e)
   by_facts (fact ∷ told) others e = seeks fact told others (λ more is. by_facts told more is) e
 
   by_head : (head xs ys : List Line) → P xs ys → P (head ++ xs) (head ++ ys)
@@ -55,12 +60,12 @@ module _ (P : List Line → List Line → Type 0) (none : P [] []) (same : (line
 pub hear_carried : (lines whole : List Line) → AreLinesCarried lines whole → (s : Said) → hear_lines s lines ≡ hear_lines s whole
 hear_carried lines whole is =
     by_carried (λ (xs ys : List Line). (s : Said) → hear_lines s xs ≡ hear_lines s ys) (λ s. refl) (λ line xs ys p s. p (hear s (says line)))
-    (λ k from to name xs ys p s. p s) (λ k from to name xs ys p s. p s) lines whole is
+    (λ k from to name xs ys p s. p s) (λ k from to name xs ys p s. p s) (λ t xs ys p s. p s) (λ t xs ys p s. p s) lines whole is
 
 pub said_carried : (g : ℕ → Scheme) (lines whole : List Line) → AreLinesCarried lines whole → (s : Said) → AreSaid g s whole → AreSaid g s lines
 said_carried g lines whole is =
     by_carried (λ (xs ys : List Line). (s : Said) → AreSaid g s ys → AreSaid g s xs) (λ s x. tt) (λ line xs ys p s x. (x.0, p (hear s (says line)) x.1))
-    (λ k from to name xs ys p s x. (tt, p s x)) (λ k from to name xs ys p s x. p s x.1) lines whole is
+    (λ k from to name xs ys p s x. (tt, p s x)) (λ k from to name xs ys p s x. p s x.1) (λ t xs ys p s x. (tt, p s x)) (λ t xs ys p s x. p s x.1) lines whole is
 
 -- of events that ask for the same
 module _ (event other : Event) (alike : (line : Line) (a : Asked) → line_asked event line a ≡ line_asked other line a) where
@@ -68,13 +73,13 @@ module _ (event other : Event) (alike : (line : Line) (a : Asked) → line_asked
   asked_carried lines whole is =
       by_carried (λ (xs ys : List Line). (a : Asked) → lines_asked event xs a ≡ lines_asked other ys a) (λ a. refl)
       (λ line xs ys p a. p (line_asked event line a) ∙ ap (lines_asked other ys) (alike line a))
-      (λ k from to name xs ys p a. p a) (λ k from to name xs ys p a. p a) lines whole is
+      (λ k from to name xs ys p a. p a) (λ k from to name xs ys p a. p a) (λ t xs ys p a. p a) (λ t xs ys p a. p a) lines whole is
 
   pub asked_so : (lines whole : List Line) → AreLinesCarried lines whole → (a : Asked) → LinesAsked other a whole → LinesAsked event a lines
   asked_so lines whole is =
       by_carried (λ (xs ys : List Line). (a : Asked) → LinesAsked other a ys → LinesAsked event a xs) (λ a x. tt)
       (λ line xs ys p a x. (x.0, p (line_asked event line a) (subst (λ (b : Asked). LinesAsked other b ys) (sym (alike line a)) x.1)))
-      (λ k from to name xs ys p a x. (tt, p a x)) (λ k from to name xs ys p a x. p a x.1) lines whole is
+      (λ k from to name xs ys p a x. (tt, p a x)) (λ k from to name xs ys p a x. p a x.1) (λ t xs ys p a x. (tt, p a x)) (λ t xs ys p a x. p a x.1) lines whole is
 
 answer_same : (line : Line) (xs ys : List Line) → answer_in xs ≡ answer_in ys → answer_in (line ∷ xs) ≡ answer_in (line ∷ ys)
 answer_same (AnswerLine answer) xs ys p = refl
@@ -82,7 +87,7 @@ answer_same other xs ys p = p
 
 pub answer_carried : (lines whole : List Line) → AreLinesCarried lines whole → answer_in lines ≡ answer_in whole
 answer_carried lines whole is =
-    by_carried (λ (xs ys : List Line). answer_in xs ≡ answer_in ys) refl answer_same (λ k from to name xs ys p. p) (λ k from to name xs ys p. p) lines whole is
+    by_carried (λ (xs ys : List Line). answer_in xs ≡ answer_in ys) refl answer_same (λ k from to name xs ys p. p) (λ k from to name xs ys p. p) (λ t xs ys p. p) (λ t xs ys p. p) lines whole is
 
 -- ---- an answer with what it counts and tells
 

@@ -10,6 +10,7 @@ use Rattle.row_value.specs.declared.schema.Schema.{Schema}
 use Rattle.row_value.specs.declared.schema.Scheme.{Scheme}
 use Rattle.table_model.specs.declared.event.Event.{Event}
 use Rattle.table_model.specs.declared.event.Event.TheVariants as events
+use Rattle.table_model.specs.declared.event.SubTerms.{SubTerms}
 use Rattle.step_tables.specs.Facts.{Fact, Answer, Line, AnswerLine, FactLine}
 use Rattle.step_tables.specs.Facts as facts
 use Rattle.step_tables.specs.Sayings.{Said, nothing_said, hear_lines}
@@ -44,13 +45,15 @@ module _ (P : List Node → List Node → List Turn → List Turn → Type 0) (e
 
 -- ---- what is brought
 
--- a part, or a table that is made or dropped
+-- a part, a table that is made or dropped, or a subscription to it
 pub by_brought : (P : Event → Type 0) (whole : List Node) (to : Node) → ((number : ℕ) → slice_get whole number ≡ Some to → P (events.Deliver number))
-    → ((table : ℕ) → P (events.Create to table)) → ((table : ℕ) → P (events.Drop to table)) → (other : Event) → IsBrought whole to other → P other
-by_brought P whole to parts creates drops (events.Deliver number) is = parts number is
-by_brought P whole to parts creates drops (events.Create node table) is = subst (λ (n : Node). P (events.Create n table)) (sym is) (creates table)
-by_brought P whole to parts creates drops (events.Drop node table) is = subst (λ (n : Node). P (events.Drop n table)) (sym is) (drops table)
-by_brought P whole to parts creates drops other is = absurd is
+    → ((table : ℕ) → P (events.Create to table)) → ((table : ℕ) → P (events.Drop to table))
+    → ((store table client : ℕ) (terms : Option SubTerms) → nodes.Store store ≡ to → P (events.Save store table client terms)) → (other : Event) → IsBrought whole to other → P other
+by_brought P whole to parts creates drops saves (events.Deliver number) is = parts number is
+by_brought P whole to parts creates drops saves (events.Create node table) is = subst (λ (n : Node). P (events.Create n table)) (sym is) (creates table)
+by_brought P whole to parts creates drops saves (events.Drop node table) is = subst (λ (n : Node). P (events.Drop n table)) (sym is) (drops table)
+by_brought P whole to parts creates drops saves (events.Save store table client terms) is = saves store table client terms is
+by_brought P whole to parts creates drops saves other is = absurd is
 
 -- ---- declarations
 
@@ -74,7 +77,7 @@ module _ {X : Type 0} (by : Event → ℕ → X → X) (f : List Event → ℕ �
   both_kept sent whole (events.Deliver packet) other table x is =
       kept (events.Deliver packet) tt table x
       ∙ sym (by_brought (λ (e : Event). by e table x ≡ x) whole is.0 (λ number at. kept (events.Deliver number) tt table x) (λ made. kept (events.Create is.0 made) tt table x)
-      (λ gone. kept (events.Drop is.0 gone) tt table x) other is.3)
+      (λ gone. kept (events.Drop is.0 gone) tt table x) (λ store saved client terms at. kept (events.Save store saved client terms) tt table x) other is.3)
   both_kept sent whole (events.Create node made) other table x is = absurd is
   both_kept sent whole (events.Client c gate tables) other table x is =
       kept (events.Client c gate tables) tt table x ∙ (sym (kept (events.Client c None tables) tt table x) ∙ ap (λ (e : Event). by e table x) (sym is))
@@ -227,6 +230,7 @@ lone_only other lines is = absurd is
 -- they say nothing
 sent_says : (fact : Fact) → is_sent fact ≡ true → (g : ℕ → Scheme) (s : Said) (told : List Fact) → AreSaid g s (map FactLine told) → AreSaid g s (FactLine fact ∷ map FactLine told)
 sent_says (facts.Sent k from to name) is g s told rest = (tt, rest)
+sent_says (facts.Saved table) is g s told rest = (tt, rest)
 sent_says other is g s told rest = absurd (true≢false (sym is))
 
 all_said : (g : ℕ → Scheme) (s : Said) (told : List Fact) → AllByRecursion (λ (fact : Fact). is_sent fact ≡ true) told → AreSaid g s (map FactLine told)
@@ -235,6 +239,7 @@ all_said g s (fact ∷ told) all = sent_says fact all.0 g s told (all_said g s t
 
 sent_heard : (fact : Fact) → is_sent fact ≡ true → (s : Said) (told : List Fact) → hear_lines s (map FactLine told) ≡ s → hear_lines s (FactLine fact ∷ map FactLine told) ≡ s
 sent_heard (facts.Sent k from to name) is s told rest = rest
+sent_heard (facts.Saved table) is s told rest = rest
 sent_heard other is s told rest = absurd (true≢false (sym is))
 
 all_heard : (s : Said) (told : List Fact) → AllByRecursion (λ (fact : Fact). is_sent fact ≡ true) told → hear_lines s (map FactLine told) ≡ s
@@ -265,6 +270,11 @@ module _ (g : ℕ → Scheme) (s : Said) where
   drop_form k node table facts.Done f = tt
   drop_form k node table other f = f
 
+  save_form : (k store table client : ℕ) (terms : Option SubTerms) (answer : Answer) → IsForm (events.Save store table client terms) answer → IsForm (events.Deliver k) answer
+  save_form k store table client terms (facts.Refuses refusal) f = tt
+  save_form k store table client terms facts.Done f = tt
+  save_form k store table client terms other f = f
+
   -- what is brought
   deliver_too : (k : ℕ) (whole_to : List Node) (to : Node) (lines whole : List Line) → AreLinesCarried lines whole → (other : Event) → IsBrought whole_to to other
       → IsTurn g s (record { event = other; lines = whole }) → IsAnswered g s (events.Deliver k) lines
@@ -274,6 +284,8 @@ module _ (g : ℕ → Scheme) (s : Said) where
       (λ table a.
       answered_carried g s (events.Deliver k) (events.Create to table) (create_form k to table) (λ answer counted c. c) (λ told some f q. tt) (λ answer counted q. tt) lines whole is a)
       (λ table a. answered_carried g s (events.Deliver k) (events.Drop to table) (drop_form k to table) (λ answer counted c. c) (λ told some f q. tt) (λ answer counted q. tt) lines whole is a)
+      (λ store table client terms at a. answered_carried g s (events.Deliver k) (events.Save store table client terms) (save_form k store table client terms)
+      (λ answer counted c. c) (λ told some f q. tt) (λ answer counted q. tt) lines whole is a)
 
   same_turn : (b : Bool) (event : Event) (lines whole : List Line) → AreLinesCarried lines whole
       → MatchBool b (whole ≡ []) (IsAnswered g s event whole) → MatchBool b (lines ≡ []) (IsAnswered g s event lines)

@@ -1,8 +1,10 @@
 -- What each event with gateways carries of the wire.
-use Rattle.std.proofs.Common.{◌≡◌, inl, inr, ⊎_elim, ℕ, ◌+◌, Bool, true, false, List, [], ◌∷◌, length, Option, Some, None, refl, sym, ◌∙◌, ap, subst, true≢false}
-use Rattle.std.specs.Prelude.{◌==◌, ◌&&◌, map, slice_get, is_some, option_map, if◌then◌else◌}
+use Rattle.std.proofs.Common.{◌≡◌, ◌≤◌, inl, inr, ⊎_elim, ℕ, ◌+◌, arith, Bool, true, false, List, [], ◌∷◌, length, Option, Some, None, refl, sym, ◌∙◌, ap, subst, true≢false}
+use Rattle.std.specs.Prelude.{◌==◌, ◌&&◌, nat_le, map, slice_get, is_some, option_map, if◌then◌else◌}
 use Rattle.std.specs.Ordering.{nat_cmp}
 use Rattle.std.specs.BTreeMap.{insert_entry}
+use Rattle.std.proofs.lemmas.Bool.{and_parts}
+use Rattle.std.proofs.lemmas.Bool.Decides.{nat_tests}
 use Rattle.std.proofs.lemmas.Option.{slice_get-map}
 use Rattle.stab_base.specs.declared.node.Node.{Node}
 use Rattle.stab_base.specs.declared.node.Node.TheVariants as nodes
@@ -15,10 +17,11 @@ use Rattle.table_model.specs.declared.message.CreateTable.{CreateTable}
 use Rattle.table_model.specs.declared.message.DropTable.{DropTable}
 use Rattle.table_model.specs.declared.message.OperationResponse.{OperationResponse}
 use Rattle.table_model.specs.declared.message.RestoreClientSubscriptions.{RestoreClientSubscriptions}
+use Rattle.table_model.specs.declared.message.SaveClientSubscription.{SaveClientSubscription}
 use Rattle.table_model.specs.declared.table_state.TableState.{TableState}
 use Rattle.table_model.specs.declared.table_state.TableState.TheVariants as states
 use Rattle.row_value.specs.declared.schema.Schema.{Schema}
-use Rattle.step_tables.specs.StoreMoves.{StoreTask}
+use Rattle.step_tables.specs.StoreMoves.{StoreTask, Terms}
 use Rattle.step_tables.specs.Facts.{Answer, Refusal, Line, AnswerLine}
 use Rattle.step_tables.specs.Facts as facts
 use Rattle.step_tables.specs.Members.{Among}
@@ -41,7 +44,7 @@ use Rattle.gate_tables.specs.Gate.{Gateway, Running, Sends}
 use Rattle.gate_tables.specs.Gate as gate
 use Rattle.gated_tables.specs.Devices.{Device, part_client}
 use Rattle.gated_tables.specs.Net.{Sent, Net, NetStep, gate_at, device_at, has_none, still, refused, unless_down, is_node_down, sending, cutting, cut_by, with_device, restarted, asks_again}
-use Rattle.gated_tables.specs.Net.{Asker, carried_on, of_session, says_made, says_gone, answer_heard, is_linked, unless_busy, answer_from, answering, asked_by, is_schema, creates, drops, to_create, to_drop, turned_away}
+use Rattle.gated_tables.specs.Net.{Asker, carried_on, of_session, says_made, says_gone, answer_heard, is_linked, unless_busy, answer_from, answering, asked_by, is_schema, creates, drops, is_client, terms_in, saves, to_create, to_drop, to_save, turned_away}
 use Rattle.gated_tables.specs.Net.{part_taken, is_shut, way_to, asks_for, unless_away, asks_create, asks_drop, to_ask, is_open, to_give, if_read, to_end}
 use Rattle.gated_tables.specs.Net.{client_taken, asks_session, answered, if_idle, agenda_in, answer_taken, to_client, restoring, busy_with, restored, to_store, directory_of, with_running}
 use Rattle.gated_tables.specs.Net.{sent_of, gate_done, to_gate}
@@ -111,6 +114,13 @@ module _ (v : Wire) (c : ℕ) (part : Part) (from other : Node) (lucks : Lucks) 
       go : (b : Bool) → (if b then untaken v one lucks else by_client v c one lucks (client_at v.world c)) ≡ (if b then untaken v two lucks else by_client v c two lucks (client_at v.world c))
       go true = refl
       go false = by_node (client_at v.world c)
+
+a_client : (number table c : ℕ) (terms : Option Terms) → is_client c ≡ true → IsBuilt (events.Save number table c terms)
+a_client number table c terms is =
+    let p = and_parts (nat_le 1 c) (nat_le c 64) is in
+    let least : 1 ≤ c = grind (arith, nat_tests, p.0) in
+    let most : c ≤ 64 = grind (arith, nat_tests, p.1) in
+    record { least = least; most = most }
 
 -- ---- answers alone
 
@@ -245,6 +255,13 @@ module _ (n : Net) (k : IsKeptNet n) where
         let s : KeepsWire n.wire (wire_step n.wire (events.Drop to table) lucks).wire = step_keeps n.wire k.wire (events.Drop to table) refl tt lucks in
         carries_more n (events.Deliver number) _ (shares_asked n k askers n.wire (none_linked n.wire k.wire) (events.Deliver number) (events.Drop to table) lucks tt (to, party, comes, refl) s.kept s.clients)
 
+    save_carries : (keeper : ℕ) → to ≡ nodes.Store keeper → (table c : ℕ) (terms : Option Terms) → IsBuilt (events.Save keeper table c terms)
+        → Carries 1 n (events.Deliver number) (carried_on asked (wire_step n.wire (events.Save keeper table c terms) lucks))
+    save_carries keeper store table c terms client =
+        let s : KeepsWire n.wire (wire_step n.wire (events.Save keeper table c terms) lucks).wire = step_keeps n.wire k.wire (events.Save keeper table c terms) refl client lucks in
+        carries_more n (events.Deliver number) _
+        (shares_asked n k askers n.wire (none_linked n.wire k.wire) (events.Deliver number) (events.Save keeper table c terms) lucks client (to, party, comes, sym store) s.kept s.clients)
+
   -- ---- deliveries of what is no part
 
   -- a client asks for a session
@@ -310,22 +327,22 @@ module _ (n : Net) (k : IsKeptNet n) where
     restored_carries : (m : ℕ) (p : Sent) (r : RestoreClientSubscriptions) (o : Option ℕ) → Carries 1 n deliver (restored n m p r o)
     restored_carries m p r None = go r.reply
       where
-        none : AreParts n.wire (restoring m p r ∷ [])
-        none q a part is = no_part (part_of q.message) part (⊎_elim (λ e. ap (λ (x : Sent). part_of x.message) (sym e)) (λ more. absurd (among_none q more)) (among_cons (restoring m p r) [] q a)) is
+        none : AreParts n.wire (restoring n m p r ∷ [])
+        none q a part is = no_part (part_of q.message) part (⊎_elim (λ e. ap (λ (x : Sent). part_of x.message) (sym e)) (λ more. absurd (among_none q more)) (among_cons (restoring n m p r) [] q a)) is
 
-        go : (b : Bool) → Carries 1 n deliver (if b then still n facts.Done else sending n (restoring m p r ∷ []))
+        go : (b : Bool) → Carries 1 n deliver (if b then still n facts.Done else sending n (restoring n m p r ∷ []))
         go true = done_alone
-        go false = sends_alone n k deliver n (restoring m p r ∷ []) lone_done (itself n k) none
+        go false = sends_alone n k deliver n (restoring n m p r ∷ []) lone_done (itself n k) none
     restored_carries m p r (Some table) =
         let busy : Answer = facts.Refuses (facts.Busy (busy_with (hosted_at n.wire.world table))) in answers_alone n k deliver busy (alone busy tt)
 
     -- an answer of the table's Store
-    answering_carries : (table : ℕ) (a : Asker) (kind status : ℕ) → Carries 1 n deliver (answering n table a kind status)
-    answering_carries table a kind status = sends_alone n k deliver n (answer_from n.wire.world table a kind status ∷ []) lone_done (itself n k) none
+    answering_carries : (table : ℕ) (a : Asker) (status : ℕ) → Carries 1 n deliver (answering n table a status)
+    answering_carries table a status = sends_alone n k deliver n (answer_from n.wire.world table a status ∷ []) lone_done (itself n k) none
       where
-        none : AreParts n.wire (answer_from n.wire.world table a kind status ∷ [])
+        none : AreParts n.wire (answer_from n.wire.world table a status ∷ [])
         none q b part is = no_part (part_of q.message) part
-            (⊎_elim (λ e. ap (λ (x : Sent). part_of x.message) (sym e)) (λ more. absurd (among_none q more)) (among_cons (answer_from n.wire.world table a kind status) [] q b)) is
+            (⊎_elim (λ e. ap (λ (x : Sent). part_of x.message) (sym e)) (λ more. absurd (among_none q more)) (among_cons (answer_from n.wire.world table a status) [] q b)) is
 
     busy_carries : (hosted : Hosted) (x : NetStep) → Carries 1 n deliver x → Carries 1 n deliver (unless_busy n hosted x)
     busy_carries hosted x c = go hosted.store.agenda
@@ -340,38 +357,55 @@ module _ (n : Net) (k : IsKeptNet n) where
 
     turned_carries : (p : Sent) (o : Option Asked) → Carries 1 n deliver (turned_away n p o)
     turned_carries p None = done_alone
-    turned_carries p (Some a) = answering_carries a.table (record { client = a.client; to = p.from }) a.kind 18
+    turned_carries p (Some a) = answering_carries a.table (record { client = a.client; to = p.from; kind = a.kind }) 18
 
     module _ (p : Sent) (at : slice_get n.sent number ≡ Some p) (m : ℕ) (here : p.to ≡ nodes.Store m) where
       creates_carries : (a : Asker) (x : CreateTable) (state : TableState) → Carries 1 n deliver (creates n m a x lucks state)
       creates_carries a x states.Draft = go (is_schema x.schema (schema_at n.wire.world x.table))
         where
-          go : (b : Bool) → Carries 1 n deliver (if b then carried_on (asked_by x.table a n) (wire_step n.wire (events.Create (nodes.Store m) x.table) lucks) else answering n x.table a 2 18)
+          go : (b : Bool) → Carries 1 n deliver (if b then carried_on (asked_by x.table a n) (wire_step n.wire (events.Create (nodes.Store m) x.table) lucks) else answering n x.table a 18)
           go true = create_carries number p at (nodes.Store m) tt here (asked_by x.table a n).askers lucks x.table
-          go false = answering_carries x.table a 2 18
-      creates_carries a x states.Live = answering_carries x.table a 2 (if is_schema x.schema (schema_at n.wire.world x.table) then 0 else 18)
-      creates_carries a x states.Dropped = answering_carries x.table a 2 18
+          go false = answering_carries x.table a 18
+      creates_carries a x states.Live = answering_carries x.table a (if is_schema x.schema (schema_at n.wire.world x.table) then 0 else 18)
+      creates_carries a x states.Dropped = answering_carries x.table a 18
 
       drops_carries : (a : Asker) (x : DropTable) (state : TableState) → Carries 1 n deliver (drops n m a x lucks state)
-      drops_carries a x states.Draft = answering_carries x.table a 3 18
+      drops_carries a x states.Draft = answering_carries x.table a 18
       drops_carries a x states.Live = drop_carries number p at (nodes.Store m) tt here (asked_by x.table a n).askers lucks x.table
-      drops_carries a x states.Dropped = answering_carries x.table a 3 18
+      drops_carries a x states.Dropped = answering_carries x.table a 18
 
       to_create_carries : (x : CreateTable) (o : Option Hosted) → Carries 1 n deliver (to_create n m p x lucks o)
       to_create_carries x None = done_alone
       to_create_carries x (Some hosted) =
-          let a : Asker = record { client = x.client; to = p.from } in
+          let a : Asker = record { client = x.client; to = p.from; kind = 2 } in
           busy_carries hosted (creates n m a x lucks hosted.store.disk.state) (creates_carries a x hosted.store.disk.state)
 
       to_drop_carries : (x : DropTable) (o : Option Hosted) → Carries 1 n deliver (to_drop n m p x lucks o)
       to_drop_carries x None = done_alone
       to_drop_carries x (Some hosted) =
-          let a : Asker = record { client = x.client; to = p.from } in
+          let a : Asker = record { client = x.client; to = p.from; kind = 3 } in
           busy_carries hosted (drops n m a x lucks hosted.store.disk.state) (drops_carries a x hosted.store.disk.state)
+
+      saves_carries : (a : Asker) (x : SaveClientSubscription) → IsBuilt (events.Save m x.table x.client (terms_in x)) → (state : TableState) → Carries 1 n deliver (saves n m a x lucks state)
+      saves_carries a x client states.Draft = answering_carries x.table a 18
+      saves_carries a x client states.Live = save_carries number p at (nodes.Store m) tt here (asked_by x.table a n).askers lucks m refl x.table x.client (terms_in x) client
+      saves_carries a x client states.Dropped = answering_carries x.table a 18
+
+      to_save_carries : (x : SaveClientSubscription) (o : Option Hosted) → Carries 1 n deliver (to_save n m p x lucks o)
+      to_save_carries x None = done_alone
+      to_save_carries x (Some hosted) = go (is_client x.client) refl
+        where
+          a : Asker
+          a = record { client = x.client; to = p.from; kind = if x.on then 4 else 5 }
+
+          go : (b : Bool) → is_client x.client ≡ b → Carries 1 n deliver (if b then unless_busy n hosted (saves n m a x lucks hosted.store.disk.state) else still n facts.Done)
+          go true is = busy_carries hosted (saves n m a x lucks hosted.store.disk.state) (saves_carries a x (a_client m x.table x.client (terms_in x) is) hosted.store.disk.state)
+          go false is = done_alone
 
       message_to_store : (msg : Message) → Carries 1 n deliver (to_store n m (record p { message = msg }) lucks None)
       message_to_store (kinds.CreateTable x) = to_create_carries x (hosted_by n.wire.world m x.table)
       message_to_store (kinds.DropTable x) = to_drop_carries x (hosted_by n.wire.world m x.table)
+      message_to_store (kinds.SaveClientSubscription x) = to_save_carries x (hosted_by n.wire.world m x.table)
       message_to_store (kinds.RestoreClientSubscriptions r) = restored_carries m p r (busy_live n.wire.world m)
       message_to_store other = done_alone
 

@@ -15,17 +15,18 @@ use Rattle.step_tables.specs.Members.{Among}
 use Rattle.step_tables.proofs.Lists.{among_none, among_cons, among_left, among_either, among_right, among_mapped}
 use Rattle.world_tables.specs.Quiet.{sent_in}
 use Rattle.world_tables.specs.Turns.{Happening}
-use Rattle.world_tables.specs.World.{Lucks, client_at, is_client_down}
+use Rattle.world_tables.specs.World.{Lucks, client_at, is_client_down, hosted_at}
+use Rattle.step_tables.specs.Messages.{Outcome, Accepted}
 use Rattle.fair_laws.specs.Reached.{IsBuilt}
 use Rattle.fair_laws.proofs.Hosting.{all_after}
-use Rattle.part_tables.specs.Parts.{Part}
+use Rattle.part_tables.specs.Parts.{Part, Responds}
 use Rattle.message_parts.specs.Parts.{part_of, message_at}
 use Rattle.wire_tables.specs.Wire.{PartPacket, PartOutbox, Wire, WireStep, wire_step}
 use Rattle.wire_tables.specs.Wire as wires
 use Rattle.wire_laws.proofs.Places.{flat_member, member_flat}
 use Rattle.gated_tables.specs.Devices.{Device, is_online, or_zero}
 use Rattle.gated_tables.specs.Net.{Sent, Net, NetStep, NetOutbox, device_at, lines_of, still, refused, unless_down, is_node_down, sending, cutting, cut_by, with_device, sent_by, sent_to}
-use Rattle.gated_tables.specs.Net.{routed_to, routed_from, routed}
+use Rattle.gated_tables.specs.Net.{routed_to, routed_from, routed, passed_with, changes_by, changes_for, change_at, gates_for}
 use Rattle.gated_tables.specs.Net.{Asker, asker_at, asks_again, answers_to, sends_by, told_by, passed_on, outs_by, outs_of, carried_on}
 use Rattle.gated_laws.specs.Carried.{IsDoneAnswer, AreAnswered, IsLone, IsEventCarried, AreLinesCarried}
 use Rattle.gated_laws.proofs.Addressed.{ClientsStay}
@@ -104,22 +105,36 @@ module _ (n : Net) where
       go true b = ⊎_elim (λ e. ap (λ (x : Sent). part_of x.message) (sym e)) (λ more. absurd (among_none p more)) (among_cons _ [] p b)
 
   -- who asked is answered
-  none_answered : (table kind : ℕ) (o : Option Asker) (p : Sent) → Among (answers_to n.wire.world table kind o) p → part_of p.message ≡ None
-  none_answered table kind None p a = absurd (among_none p a)
-  none_answered table kind (Some x) p a = ⊎_elim (λ e. ap (λ (s : Sent). part_of s.message) (sym e)) (λ more. absurd (among_none p more)) (among_cons _ [] p a)
+  none_answered : (table : ℕ) (o : Option Asker) (p : Sent) → Among (answers_to n.wire.world table o) p → part_of p.message ≡ None
+  none_answered table None p a = absurd (among_none p a)
+  none_answered table (Some x) p a = ⊎_elim (λ e. ap (λ (s : Sent). part_of s.message) (sym e)) (λ more. absurd (among_none p more)) (among_cons _ [] p a)
 
   none_by : (fact : Fact) (p : Sent) → Among (sends_by n fact) p → part_of p.message ≡ None
   none_by (facts.ClientRecovered c) p a = none_asked c (device_at n c) p a
-  none_by (facts.Made table) p a = none_answered table 2 (asker_at n table) p a
-  none_by (facts.Unmade table) p a = none_answered table 3 (asker_at n table) p a
+  none_by (facts.Made table) p a = none_answered table (asker_at n table) p a
+  none_by (facts.Unmade table) p a = none_answered table (asker_at n table) p a
+  none_by (facts.Saved table) p a = none_answered table (asker_at n table) p a
   none_by other p a = absurd (among_none p a)
 
-  passed_parts : (packets : List PartPacket) (p : Sent) → Among (map (routed n) packets) p → (part : Part) → part_of p.message ≡ Some part
+  -- gateways are told of changes
+  none_changed : (q : PartPacket) (part : Part) (p : Sent) → Among (changes_by n q part) p → part_of p.message ≡ None
+  none_changed q (Responds r) p a = by_outcome r.outcome a
+    where
+      by_outcome : (outcome : Outcome) → Among (changes_for n q r outcome) p → part_of p.message ≡ None
+      by_outcome (Accepted version) b = let x = among_mapped (change_at q.from r.table version) (gates_for (hosted_at n.wire.world r.table)) p b in ap (λ (s : Sent). part_of s.message) (sym x.2)
+      by_outcome other b = absurd (among_none p b)
+  none_changed q other p a = absurd (among_none p a)
+
+  passed_parts : (packets : List PartPacket) (p : Sent) → Among (flat_map (passed_with n) packets) p → (part : Part) → part_of p.message ≡ Some part
       → (packet : PartPacket) × Among packets packet × (packet.part ≡ part) × ((p.to ≡ packet.to) ⊎ IsGate p.to)
   passed_parts packets p a part is =
-      let r = among_mapped (routed n) packets p a in
-      let routed_is : IsRouted r.0 p = subst (IsRouted r.0) r.2 (is_routed r.0) in
-      (r.0, r.1, (let both : Some r.0.part ≡ Some part = sym routed_is.0 ∙ is in cc), routed_is.1)
+      let r = flat_member (passed_with n) packets p a in
+      let either = among_cons (routed n r.0) (changes_by n r.0 r.0.part) p r.2 in
+      ⊎_elim
+      (λ e.
+      let routed_is : IsRouted r.0 p = subst (IsRouted r.0) e (is_routed r.0) in
+      (r.0, r.1, (let both : Some r.0.part ≡ Some part = sym routed_is.0 ∙ is in cc), routed_is.1))
+      (λ more. no_part (part_of p.message) part (none_changed r.0 r.0.part p more) is) either
 
   out_parts : (out : PartOutbox) (o : NetOutbox) → Among (outs_by n out) o → (p : Sent) → Among o.sent p → (part : Part) → part_of p.message ≡ Some part
       → (packet : PartPacket) × Among out.packets packet × (packet.part ≡ part) × ((p.to ≡ packet.to) ⊎ IsGate p.to)

@@ -11,7 +11,7 @@ use Rattle.world_tables.specs.Quiet.{sent_in}
 use Rattle.name_laws.proofs.Plain.{IsPlainFact, ArePlainFacts}
 use Rattle.wire_tables.specs.Wire.{PartPacket, PartOutbox, Wire, WireStep, part_name}
 use Rattle.wire_tables.specs.Wire as wires
-use Rattle.gated_tables.specs.Net.{Sent, Net, NetOutbox, sent_lines, lines_from, lines_of, sending, sends_by, told_by, passed_on, outs_by, outs_of, carried_on}
+use Rattle.gated_tables.specs.Net.{Sent, Net, NetOutbox, sent_lines, lines_from, lines_of, sending, sends_by, told_by, told_of, passed_on, outs_by, outs_of, carried_on}
 use Rattle.gated_laws.specs.Carried.{is_sent, without_sent, AreLinesCarried}
 
 -- ---- where packets go
@@ -37,6 +37,7 @@ mapped xs ys = map-append FactLine xs ys
 without_join : (xs ys : List Fact) → without_sent (xs ++ ys) ≡ without_sent xs ++ without_sent ys
 without_join [] ys = refl
 without_join (facts.Sent packet from to name ∷ xs) ys = without_join xs ys
+without_join (facts.Saved table ∷ xs) ys = without_join xs ys
 without_join (other ∷ xs) ys = ap (λ (l : List Fact). other ∷ l) (without_join xs ys)
 
 abbrev AllSent : List Fact → Type 0
@@ -45,6 +46,7 @@ AllSent some = AllByRecursion (λ (fact : Fact). is_sent fact ≡ true) some
 without_all : (some rest : List Fact) → AllSent some → without_sent (some ++ rest) ≡ without_sent rest
 without_all [] rest all = refl
 without_all (facts.Sent packet from to name ∷ some) rest all = without_all some rest all.1
+without_all (facts.Saved table ∷ some) rest all = without_all some rest all.1
 without_all (other ∷ some) rest all = absurd (let e : false ≡ true = all.0 in cc)
 
 -- ---- what messages are told as
@@ -126,16 +128,30 @@ wire_without number (out ∷ outs) =
 
 -- ---- a step that is carried on
 
-facts_told : (n : Net) (some : List Fact) (behind : List NetOutbox)
-    → flat_map (λ (out : NetOutbox). out.facts) (map (told_by n) some ++ behind) ≡ some ++ flat_map (λ (out : NetOutbox). out.facts) behind
-facts_told n [] behind = refl
-facts_told n (fact ∷ some) behind = ap (λ (l : List Fact). fact ∷ l) (facts_told n some behind)
+-- but for packets, and subscriptions that are kept
+told_as : (fact : Fact) (rest : List Fact) → without_sent (told_of fact ++ rest) ≡ without_sent (fact ∷ rest)
+told_as (facts.Saved table) rest = refl
+told_as fact rest = refl
 
-same_facts : (n : Net) (outs : List PartOutbox) → flat_map (λ (out : NetOutbox). out.facts) (outs_of n outs) ≡ flat_map (λ (out : PartOutbox). out.facts) outs
+facts_told : (n : Net) (some : List Fact) (behind : List NetOutbox)
+    → without_sent (flat_map (λ (out : NetOutbox). out.facts) (map (told_by n) some ++ behind)) ≡ without_sent (some ++ flat_map (λ (out : NetOutbox). out.facts) behind)
+facts_told n [] behind = refl
+facts_told n (fact ∷ some) behind =
+    let rest : List Fact = flat_map (λ (out : NetOutbox). out.facts) (map (told_by n) some ++ behind) in
+    told_as fact rest
+    ∙ (without_join (fact ∷ []) rest
+    ∙ (ap (λ (l : List Fact). without_sent (fact ∷ []) ++ l) (facts_told n some behind)
+    ∙ sym (without_join (fact ∷ []) (some ++ flat_map (λ (out : NetOutbox). out.facts) behind))))
+
+same_facts : (n : Net) (outs : List PartOutbox)
+    → without_sent (flat_map (λ (out : NetOutbox). out.facts) (outs_of n outs)) ≡ without_sent (flat_map (λ (out : PartOutbox). out.facts) outs)
 same_facts n [] = refl
 same_facts n (out ∷ outs) =
-    ap (λ (l : List NetOutbox). flat_map (λ (x : NetOutbox). x.facts) l) (append_assoc (map (told_by n) out.facts) (passed_on n out.packets ∷ []) (outs_of n outs))
-    ∙ (facts_told n out.facts (passed_on n out.packets ∷ outs_of n outs) ∙ ap (λ (l : List Fact). out.facts ++ l) (same_facts n outs))
+    let rest : List Fact = flat_map (λ (x : NetOutbox). x.facts) (outs_of n outs) in
+    ap (λ (l : List NetOutbox). without_sent (flat_map (λ (x : NetOutbox). x.facts) l)) (append_assoc (map (told_by n) out.facts) (passed_on n out.packets ∷ []) (outs_of n outs))
+    ∙ (facts_told n out.facts (passed_on n out.packets ∷ outs_of n outs)
+    ∙ (without_join out.facts rest
+    ∙ (ap (λ (l : List Fact). without_sent out.facts ++ l) (same_facts n outs) ∙ sym (without_join out.facts (flat_map (λ (x : PartOutbox). x.facts) outs)))))
 
 left_none : {X : Type 0} (xs ys : List X) → xs ++ ys ≡ [] → (xs ≡ []) × (ys ≡ [])
 left_none [] ys e = (refl, e)
@@ -172,7 +188,7 @@ lines_carried n m v s = record {
   whole_are = ap (λ (l : List Line). map AnswerLine (option_to_list s.answer) ++ (s.counted ++ l)) (wire_lines_told (length v.packets) s.outs)
       ∙ ahead (map AnswerLine (option_to_list s.answer)) s.counted (map FactLine (wire_told (length v.packets) s.outs));
   none = none_told m (length n.sent) (length v.packets) s.outs;
-  same = told_without (length n.sent) outs ∙ (ap without_sent (same_facts m s.outs) ∙ sym (wire_without (length v.packets) s.outs));
+  same = told_without (length n.sent) outs ∙ (same_facts m s.outs ∙ sym (wire_without (length v.packets) s.outs));
 }
   where
     head : List Line
@@ -215,9 +231,13 @@ outs_send number (out ∷ outs) p =
     ∙ (messages_send number out.sent (lines_from later outs)
     ∙ (ap (λ (ns : List Node). to_of out.sent ++ ns) (outs_send later outs p.1) ∙ sym (map-append (λ (x : Sent). x.to) out.sent (sent_by outs))))
 
+told_plain : (fact : Fact) → IsPlainFact fact → ArePlainFacts (told_of fact)
+told_plain (facts.Saved table) p = tt
+told_plain fact p = (p, tt)
+
 plain_told : (m : Net) (some : List Fact) (behind : List NetOutbox) → ArePlainFacts some → ArePlainOuts behind → ArePlainOuts (map (told_by m) some ++ behind)
 plain_told m [] behind p q = q
-plain_told m (fact ∷ some) behind p q = ((p.0, tt), plain_told m some behind p.1 q)
+plain_told m (fact ∷ some) behind p q = (told_plain fact p.0, plain_told m some behind p.1 q)
 
 plain_outs : (m : Net) (outs : List PartOutbox) → AllByRecursion (λ (out : PartOutbox). ArePlainFacts out.facts) outs → ArePlainOuts (outs_of m outs)
 plain_outs m [] p = tt

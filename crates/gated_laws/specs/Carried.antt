@@ -15,9 +15,10 @@ use Rattle.world_tables.specs.Turns.{Turn}
 
 -- ---- lines
 
--- whether a fact is that a packet was sent
+-- whether a fact is that a packet was sent, or that a subscription is kept, which only the wire tells
 abbrev pub is_sent : Fact → Bool
 is_sent (facts.Sent packet from to name) = true
+is_sent (facts.Saved table) = true
 is_sent other = false
 
 abbrev pub without_sent : List Fact → List Fact
@@ -42,11 +43,12 @@ IsNoGate (nodes.Gate number) = ⊥
 IsNoGate other = Unit {0}
 
 -- what a message makes of the node that it comes to: it is a part, whose packet went straight to the same node, or a
--- table is made or dropped there
+-- table is made or dropped there, or a subscription to it kept
 abbrev pub IsBrought : List Node → Node → Event → Type 0
 IsBrought whole to (events.Deliver number) = slice_get whole number ≡ Some to
 IsBrought whole to (events.Create node table) = node ≡ to
 IsBrought whole to (events.Drop node table) = node ≡ to
+IsBrought whole to (events.Save store table client terms) = nodes.Store store ≡ to
 IsBrought whole to other = ⊥
 
 -- A delivery to a client or to a Store brings what the message is to the same node. A client is declared without its

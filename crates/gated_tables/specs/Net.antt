@@ -3,8 +3,9 @@
 -- clients and Stores make of a part that has come is what they make of it in the world of parts. A client asks the
 -- table's owner to make or to drop a table; where the owner's answer says that it is done, and where any answer says
 -- that the table isn't live, the client opens the table or closes it.
-use Rattle.std.specs.Prelude.{ℕ, ◌+◌, ◌==◌, ◌&&◌, ◌||◌, not, Bool, true, false, List, [], ◌∷◌, ◌++◌, length, map, fold}
-use Rattle.std.specs.Prelude.{slice_get, Option, Some, None, option_to_list, if◌then◌else◌}
+use Rattle.std.specs.Prelude.{ℕ, ◌+◌, ◌-◌, ◌/◌, ◌%◌, ◌^◌, ◌==◌, ◌&&◌, ◌||◌, not, Bool, true, false, List, [], ◌∷◌, ◌++◌, length}
+use Rattle.std.specs.Prelude.{map, fold, filter, drop}
+use Rattle.std.specs.Prelude.{slice_get, nat_le, Option, Some, None, option_to_list, if◌then◌else◌}
 use Rattle.std.specs.List.{flat_map}
 use Rattle.std.specs.Ordering.{nat_cmp}
 use Rattle.std.specs.Map.{lookup}
@@ -16,24 +17,29 @@ use Rattle.stab_base.specs.declared.step.Step.TheVariants as steps
 use Rattle.row_value.specs.declared.schema.Schema.{Schema}
 use Rattle.table_model.specs.declared.event.Event.{Event}
 use Rattle.table_model.specs.declared.event.Event.TheVariants as events
+use Rattle.table_model.specs.declared.event.NetEvent.{NetEvent}
+use Rattle.table_model.specs.declared.event.NetEvent.TheVariants as nets
 use Rattle.table_model.specs.declared.message.Message.{Message}
 use Rattle.table_model.specs.declared.message.Message.TheVariants as messages
 use Rattle.table_model.specs.declared.message.CreateTable.{CreateTable}
 use Rattle.table_model.specs.declared.message.DropTable.{DropTable}
 use Rattle.table_model.specs.declared.message.OperationResponse.{OperationResponse}
 use Rattle.table_model.specs.declared.message.RestoreClientSubscriptions.{RestoreClientSubscriptions}
+use Rattle.table_model.specs.declared.message.SaveClientSubscription.{SaveClientSubscription}
+use Rattle.table_model.specs.declared.message.TableSubscription.{TableSubscription}
 use Rattle.table_model.specs.declared.table_state.TableState.{TableState}
 use Rattle.table_model.specs.declared.table_state.TableState.TheVariants as states
 use Rattle.table_model.specs.MessageNames.{name_of}
 use Rattle.step_tables.specs.Facts.{Fact, Answer, Refusal, Line, AnswerLine, FactLine}
 use Rattle.step_tables.specs.Facts as facts
-use Rattle.step_tables.specs.Messages.{Luck}
+use Rattle.step_tables.specs.Messages.{Luck, Outcome, Response}
 use Rattle.step_tables.specs.Messages as calls
 use Rattle.step_tables.specs.ClientMoves.{Client, ClientTask, TableDisk, table_at, seen}
-use Rattle.step_tables.specs.StoreMoves.{StoreTask, version_at}
+use Rattle.step_tables.specs.StoreMoves.{StoreTask, Terms, version_at}
 use Rattle.world_tables.specs.World.{World, Hosted, Lucks, hosted_at, hosted_by, client_at, schema_at, is_down, is_cut}
 use Rattle.world_tables.specs.World.{is_client_down, busy_live, is_live_state, with_link, owner_of, first_luck}
-use Rattle.part_tables.specs.Parts.{Part}
+use Rattle.world_tables.specs.World.{tables_of}
+use Rattle.part_tables.specs.Parts.{Part, Responds}
 use Rattle.message_parts.specs.Parts.{part_of, message_at}
 use Rattle.wire_tables.specs.Wire.{Wire, PartPacket, PartOutbox, WireStep, brought, part_table, wire_step}
 use Rattle.wire_tables.specs.Wire as wires
@@ -50,14 +56,16 @@ pub record Sent : Type 0 where
   pub to : Node
   pub message : Message
 
--- who asked for a table to be made or dropped: which client, and where its answer goes
+-- who asked for a table to be made or dropped, or for a subscription to it: which client, where its answer goes, and
+-- the kind of its message
 pub record Asker : Type 0 where
   pub client : ℕ
   pub to : Node
+  pub kind : ℕ
 
 -- the world of the clients and the Stores, in which a client with a gateway counts as cut off while it isn't registered
--- or its link is down; the gateways; of each client that has one what it has of it; of each table who last had it made
--- or dropped; and every message that was ever sent, in order
+-- or its link is down; the gateways; of each client that has one what it has of it; of each table who last had it made,
+-- dropped, or subscribed to it; and every message that was ever sent, in order
 pub record Net : Type 0 where
   pub wire : Wire
   pub gates : List (ℕ × Gateway)
@@ -190,43 +198,80 @@ asks_again c (Some d) = if d.linked
     then record { from = nodes.Client c; to = nodes.Gate d.gate; message = register c } ∷ []
     else []
 
--- the answer that a table is made has its schema
+-- the answer that a table is made, or that a client subscribes to it, has its schema
 abbrev pub schema_with : World → ℕ → ℕ → ℕ → Option Schema
-schema_with w table kind status = if (kind == 2) && (status == 0) then schema_at w table else None
+schema_with w table kind status = if ((kind == 2) || (kind == 4)) && (status == 0) then schema_at w table else None
 
--- the owner's answer to a message of this kind: 0 where it is carried out, and 18 where the table is in another state
-abbrev pub answer_from : World → ℕ → Asker → ℕ → ℕ → Sent
-answer_from w table a kind status = record {
+-- the owner's answer: 0 where what was asked is carried out, and 18 where the table is in another state
+abbrev pub answer_from : World → ℕ → Asker → ℕ → Sent
+answer_from w table a status = record {
   from = nodes.Store (owner_of w table);
   to = a.to;
   message = messages.OperationResponse (record {
     client = a.client;
     table = table;
-    answered = kind;
+    answered = a.kind;
     status = status;
     token = 0;
-    schema = schema_with w table kind status;
+    schema = schema_with w table a.kind status;
   });
 }
 
-abbrev pub answers_to : World → ℕ → ℕ → Option Asker → List Sent
-answers_to w table kind None = []
-answers_to w table kind (Some a) = answer_from w table a kind 0 ∷ []
+abbrev pub answers_to : World → ℕ → Option Asker → List Sent
+answers_to w table None = []
+answers_to w table (Some a) = answer_from w table a 0 ∷ []
 
--- at the end of a recovery a client asks for a session; and who asked is answered once a table is made or dropped
+-- at the end of a recovery a client asks for a session; and who asked is answered once a table is made or dropped, or
+-- the subscription is kept
 abbrev pub sends_by : Net → Fact → List Sent
 sends_by n (facts.ClientRecovered c) = asks_again c (device_at n c)
-sends_by n (facts.Made table) = answers_to n.wire.world table 2 (asker_at n table)
-sends_by n (facts.Unmade table) = answers_to n.wire.world table 3 (asker_at n table)
+sends_by n (facts.Made table) = answers_to n.wire.world table (asker_at n table)
+sends_by n (facts.Unmade table) = answers_to n.wire.world table (asker_at n table)
+sends_by n (facts.Saved table) = answers_to n.wire.world table (asker_at n table)
 sends_by n other = []
+
+-- ---- changes of a table
+
+-- the gateways by which clients subscribe, each once, by rising number
+abbrev pub gates_of : List (ℕ × Terms) → List ℕ
+gates_of subs = fold (λ (gates : List ℕ) (e : ℕ × Terms). insert_key nat_cmp gates e.1.gate) [] subs
+
+abbrev pub gates_for : Option Hosted → List ℕ
+gates_for None = []
+gates_for (Some hosted) = gates_of hosted.store.disk.subs
+
+abbrev pub change_at : Node → ℕ → ℕ → ℕ → Sent
+change_at from table version number = record {
+  from = from;
+  to = nodes.Gate number;
+  message = messages.TableVersionUpdateNotification (record { gate = number; table = table; version = version });
+}
+
+-- behind the answer that a write is accepted, each of these gateways is told of the version
+abbrev pub changes_for : Net → PartPacket → Response → Outcome → List Sent
+changes_for n p r (calls.Accepted version) =
+    map (change_at p.from r.table version) (gates_for (hosted_at n.wire.world r.table))
+changes_for n p r other = []
+
+abbrev pub changes_by : Net → PartPacket → Part → List Sent
+changes_by n p (Responds r) = changes_for n p r r.outcome
+changes_by n p part = []
 
 -- ---- a step of the wire, with what it sends on its way
 
+-- that a subscription is kept is told by its answer alone
+abbrev pub told_of : Fact → List Fact
+told_of (facts.Saved table) = []
+told_of fact = fact ∷ []
+
 abbrev pub told_by : Net → Fact → NetOutbox
-told_by n fact = record { facts = fact ∷ []; sent = sends_by n fact }
+told_by n fact = record { facts = told_of fact; sent = sends_by n fact }
+
+abbrev pub passed_with : Net → PartPacket → List Sent
+passed_with n p = routed n p ∷ changes_by n p p.part
 
 abbrev pub passed_on : Net → List PartPacket → NetOutbox
-passed_on n packets = record { facts = []; sent = map (routed n) packets }
+passed_on n packets = record { facts = []; sent = flat_map (passed_with n) packets }
 
 abbrev pub outs_by : Net → PartOutbox → List NetOutbox
 outs_by n out = map (told_by n) out.facts ++ passed_on n out.packets ∷ []
@@ -274,9 +319,9 @@ abbrev pub of_session : Net → ℕ → OperationResponse → Option Device → 
 of_session n c m None = still n facts.Done
 of_session n c m (Some d) = answered n c m d
 
--- whether an answer says that a table is there now, or that it is there no more
+-- whether an answer says that a table is there, or that it is there no more
 abbrev pub says_made : OperationResponse → Bool
-says_made m = (m.status == 0) && (m.answered == 2)
+says_made m = (m.status == 0) && ((m.answered == 2) || (m.answered == 4))
 
 abbrev pub says_gone : OperationResponse → Bool
 says_gone m = (m.status == 18) || ((m.status == 0) && (m.answered == 3))
@@ -296,6 +341,60 @@ abbrev pub answer_taken : Net → ℕ → OperationResponse → Lucks → Option
 answer_taken n c m lucks o =
     if is_linked n c o then answer_heard n c m lucks o else refused n facts.Offline
 
+-- ---- a client is told that tables have changed
+
+abbrev pub is_open : Option TableDisk → Bool
+is_open None = false
+is_open (Some table) = not table.closed
+
+-- the declared tables whose bits stand, by rising number
+abbrev pub is_told : ℕ → ℕ → Bool
+is_told bits table = (bits / 2 ^ (table - 1)) % 2 == 1
+
+abbrev pub tables_told : World → ℕ → List ℕ
+tables_told w bits = filter (is_told bits) (map (λ (e : ℕ × Schema). e.0) w.schemas)
+
+abbrev pub opened_at : World → ℕ → ℕ → Bool
+opened_at w c table = by_client (client_at w c)
+  where
+    by_client : Option Client → Bool
+    by_client None = false
+    by_client (Some node) = is_open (table_at (seen node.disk) table)
+
+abbrev pub has_failed : Option Answer → Bool
+has_failed (Some (facts.Refuses facts.NoDevice)) = true
+has_failed other = false
+
+-- it asks for the next change of each that it has opened; where its disk fails it goes down, and asks for no more
+abbrev pub asks_each : ℕ → List ℕ → Lucks → NetStep → NetStep
+asks_each c [] lucks s = s
+asks_each c (table ∷ tables) lucks s =
+    if has_failed s.answer || not (opened_at s.net.wire.world c table) then asks_each c tables lucks s
+    else (let next : NetStep = carried_on s.net (wire_step s.net.wire (events.Ask c table) lucks) in
+    asks_each c tables (record lucks { calls = drop 1 lucks.calls })
+    (record next { answer = if has_failed next.answer then next.answer else s.answer; outs = s.outs ++ next.outs }))
+
+abbrev pub changes_come : Net → ℕ → ℕ → NetStep
+changes_come n c bits = record {
+  net = n;
+  answer = Some facts.Done;
+  counted = [];
+  outs = record { facts = facts.Notified c bits ∷ []; sent = [] } ∷ [];
+}
+
+-- its link decides whether it takes the message, and not its session
+abbrev pub changes_told : Net → ℕ → ℕ → Lucks → Option Device → NetStep
+changes_told n c bits lucks None = asks_each c (tables_told n.wire.world bits) lucks (changes_come n c bits)
+changes_told n c bits lucks (Some d) =
+    let s : NetStep = asks_each c (tables_told n.wire.world bits) lucks
+        (changes_come (record n { wire = cutting c d.linked n.wire }) c bits) in
+    record s { net = cut_by c d s.net }
+
+abbrev pub notified : Net → ℕ → ℕ → Lucks → Option Device → NetStep
+notified n c bits lucks o = if is_linked n c o
+    then if_idle n lucks (agenda_in (client_at n.wire.world c)) (changes_told n c bits lucks o)
+    else refused n facts.Offline
+
 abbrev pub to_client : Net → ℕ → Sent → Lucks → Option Part → NetStep
 to_client n c p lucks (Some part) =
     client_taken n c (record { from = p.from; to = p.to; part = part }) lucks (device_at n c)
@@ -303,14 +402,31 @@ to_client n c p lucks None = by_message p.message
   where
     by_message : Message → NetStep
     by_message (messages.OperationResponse m) = answer_taken n c m lucks (device_at n c)
+    by_message (messages.Notify m) = notified n c m.bitmap lucks (device_at n c)
     by_message other = still n facts.Done
 
+-- the subscriptions of a client to the live tables of a Store, by rising table
+abbrev pub sub_of : ℕ → Option Terms → List TableSubscription
+sub_of table None = []
+sub_of table (Some terms) =
+    record { table = table; period = terms.period; tolerance = terms.tolerance } ∷ []
+
+abbrev pub sub_at : ℕ → ℕ → Option Hosted → List TableSubscription
+sub_at client table None = []
+sub_at client table (Some hosted) = if is_live_state hosted.store.disk.state
+    then sub_of table (lookup (is_at (nat_cmp client)) hosted.store.disk.subs) else []
+
+abbrev pub subs_of_client : World → ℕ → ℕ → List TableSubscription
+subs_of_client w number client =
+    flat_map (λ (table : ℕ). sub_at client table (hosted_at w table)) (tables_of w number)
+
 -- to a Store: what a client has sent comes from it, through a gateway or not
-abbrev pub restoring : ℕ → Sent → RestoreClientSubscriptions → Sent
-restoring number p m = record {
+abbrev pub restoring : Net → ℕ → Sent → RestoreClientSubscriptions → Sent
+restoring n number p m = record {
   from = nodes.Store number;
   to = p.from;
-  message = messages.RestoreClientSubscriptions (record m { reply = true; subscriptions = [] });
+  message = messages.RestoreClientSubscriptions
+      (record m { reply = true; subscriptions = subs_of_client n.wire.world number m.client });
 }
 
 abbrev pub busy_with : Option Hosted → ℕ
@@ -321,9 +437,9 @@ busy_with (Some hosted) = by_agenda hosted.store.agenda
     by_agenda (Some (task ∷ tasks)) = version_at hosted.store.disk task.change
     by_agenda other = 0
 
--- the subscriptions that a Store has kept, of which there are none yet; it is busy where any of its live tables is
+-- the subscriptions of a client that a Store has kept; it is busy where any of its live tables is
 abbrev pub restored : Net → ℕ → Sent → RestoreClientSubscriptions → Option ℕ → NetStep
-restored n number p m None = if m.reply then still n facts.Done else sending n (restoring number p m ∷ [])
+restored n number p m None = if m.reply then still n facts.Done else sending n (restoring n number p m ∷ [])
 restored n number p m (Some table) = refused n (facts.Busy (busy_with (hosted_at n.wire.world table)))
 
 -- a table at work is asked again later
@@ -334,8 +450,8 @@ unless_busy n hosted s = by_agenda hosted.store.agenda
     by_agenda (Some (task ∷ tasks)) = refused n (facts.Busy (busy_with (Some hosted)))
     by_agenda other = s
 
-abbrev pub answering : Net → ℕ → Asker → ℕ → ℕ → NetStep
-answering n table a kind status = sending n (answer_from n.wire.world table a kind status ∷ [])
+abbrev pub answering : Net → ℕ → Asker → ℕ → NetStep
+answering n table a status = sending n (answer_from n.wire.world table a status ∷ [])
 
 abbrev pub asked_by : ℕ → Asker → Net → Net
 asked_by table a n = record n { askers = insert_entry nat_cmp n.askers table a }
@@ -348,30 +464,50 @@ is_schema schema (Some declared) = same_schema schema declared
 abbrev pub creates : Net → ℕ → Asker → CreateTable → Lucks → TableState → NetStep
 creates n number a m lucks states.Draft = if is_schema m.schema (schema_at n.wire.world m.table)
     then carried_on (asked_by m.table a n) (wire_step n.wire (events.Create (nodes.Store number) m.table) lucks)
-    else answering n m.table a 2 18
+    else answering n m.table a 18
 creates n number a m lucks states.Live =
-    answering n m.table a 2 (if is_schema m.schema (schema_at n.wire.world m.table) then 0 else 18)
-creates n number a m lucks states.Dropped = answering n m.table a 2 18
+    answering n m.table a (if is_schema m.schema (schema_at n.wire.world m.table) then 0 else 18)
+creates n number a m lucks states.Dropped = answering n m.table a 18
 
 abbrev pub drops : Net → ℕ → Asker → DropTable → Lucks → TableState → NetStep
 drops n number a m lucks states.Live =
     carried_on (asked_by m.table a n) (wire_step n.wire (events.Drop (nodes.Store number) m.table) lucks)
-drops n number a m lucks other = answering n m.table a 3 18
+drops n number a m lucks other = answering n m.table a 18
 
 abbrev pub to_create : Net → ℕ → Sent → CreateTable → Lucks → Option Hosted → NetStep
 to_create n number p m lucks None = still n facts.Done
 to_create n number p m lucks (Some hosted) = unless_busy n hosted
-    (creates n number (record { client = m.client; to = p.from }) m lucks hosted.store.disk.state)
+    (creates n number (record { client = m.client; to = p.from; kind = 2 }) m lucks hosted.store.disk.state)
 
 abbrev pub to_drop : Net → ℕ → Sent → DropTable → Lucks → Option Hosted → NetStep
 to_drop n number p m lucks None = still n facts.Done
 to_drop n number p m lucks (Some hosted) = unless_busy n hosted
-    (drops n number (record { client = m.client; to = p.from }) m lucks hosted.store.disk.state)
+    (drops n number (record { client = m.client; to = p.from; kind = 3 }) m lucks hosted.store.disk.state)
+
+-- a client's subscription is kept by a live table, or that it has none; no other number is a client's
+abbrev pub is_client : ℕ → Bool
+is_client c = nat_le 1 c && nat_le c 64
+
+abbrev pub terms_in : SaveClientSubscription → Option Terms
+terms_in m = if m.on then Some (record { gate = m.gate; period = m.period; tolerance = m.tolerance }) else None
+
+abbrev pub saves : Net → ℕ → Asker → SaveClientSubscription → Lucks → TableState → NetStep
+saves n number a m lucks states.Live = carried_on (asked_by m.table a n)
+    (wire_step n.wire (events.Save number m.table m.client (terms_in m)) lucks)
+saves n number a m lucks other = answering n m.table a 18
+
+abbrev pub to_save : Net → ℕ → Sent → SaveClientSubscription → Lucks → Option Hosted → NetStep
+to_save n number p m lucks None = still n facts.Done
+to_save n number p m lucks (Some hosted) = if is_client m.client
+    then unless_busy n hosted
+    (saves n number (record { client = m.client; to = p.from; kind = if m.on then 4 else 5 }) m lucks
+    hosted.store.disk.state)
+    else still n facts.Done
 
 -- what a client asks of a table that isn't live is refused, whatever it is
 abbrev pub turned_away : Net → Sent → Option Asked → NetStep
 turned_away n p None = still n facts.Done
-turned_away n p (Some a) = answering n a.table (record { client = a.client; to = p.from }) a.kind 18
+turned_away n p (Some a) = answering n a.table (record { client = a.client; to = p.from; kind = a.kind }) 18
 
 abbrev pub part_taken : Net → ℕ → Sent → Lucks → Part → NetStep
 part_taken n number p lucks part = carried_on n
@@ -399,6 +535,7 @@ to_store n number p lucks None = by_message p.message
     by_message : Message → NetStep
     by_message (messages.CreateTable m) = to_create n number p m lucks (hosted_by n.wire.world number m.table)
     by_message (messages.DropTable m) = to_drop n number p m lucks (hosted_by n.wire.world number m.table)
+    by_message (messages.SaveClientSubscription m) = to_save n number p m lucks (hosted_by n.wire.world number m.table)
     by_message (messages.RestoreClientSubscriptions m) =
         restored n number p m (busy_live n.wire.world number)
     by_message other = still n facts.Done
@@ -497,10 +634,6 @@ to_ask n c table lucks None = refused n facts.NoTable
 to_ask n c table lucks (Some node) = unless_down n (nodes.Client c)
     (unless_away n c lucks node (asks_create n c table (device_at n c) (schema_at n.wire.world table)))
 
-abbrev pub is_open : Option TableDisk → Bool
-is_open None = false
-is_open (Some table) = not table.closed
-
 -- a table that the client has opened, and hasn't closed
 abbrev pub to_give : Net → ℕ → ℕ → Lucks → Client → NetStep
 to_give n c table lucks node = if is_open (table_at (seen node.disk) table)
@@ -516,6 +649,60 @@ abbrev pub to_end : Net → ℕ → ℕ → Lucks → Option Client → NetStep
 to_end n c table lucks None = refused n facts.NoTable
 to_end n c table lucks (Some node) = unless_down n (nodes.Client c)
     (if_read n c table lucks (first_luck lucks.calls) (to_give n c table lucks node))
+
+-- ---- a client asks to be told of changes of a table, or no more
+
+-- one without a gateway can't, and neither can one at work, or without its link or its session
+abbrev pub asks_gate : Net → ℕ → Lucks → Client → Message → Option Device → NetStep
+asks_gate n c lucks node message None = refused n (facts.Unregistered c)
+asks_gate n c lucks node message (Some d) = unless_away n c lucks node
+    (sending n (record { from = nodes.Client c; to = nodes.Gate d.gate; message = message } ∷ []))
+
+abbrev pub to_subscribe : Net → ℕ → Lucks → (ℕ → Message) → Option Client → NetStep
+to_subscribe n c lucks message None = refused n facts.NoTable
+to_subscribe n c lucks message (Some node) = unless_down n (nodes.Client c)
+    (asks_gate n c lucks node (message (token_with (device_at n c))) (device_at n c))
+
+abbrev pub subscribing : ℕ → ℕ → ℕ → ℕ → ℕ → Message
+subscribing c table period tolerance token = messages.SubscribeTable (record {
+  client = c;
+  token = token;
+  table = table;
+  period = period;
+  tolerance = tolerance;
+})
+
+abbrev pub unsubscribing : ℕ → ℕ → ℕ → Message
+unsubscribing c table token =
+    messages.UnsubscribeTable (record { client = c; token = token; table = table })
+
+-- ---- ticks
+
+-- a tick at a gateway that is up
+abbrev pub gate_ticks : ℕ → Option Gateway → NetStep → NetStep
+gate_ticks number None s = s
+gate_ticks number (Some gateway) s = by_running gateway.running
+  where
+    by_running : Option Running → NetStep
+    by_running None = s
+    by_running (Some running) =
+        let done : NetStep = gate_done s.net number gateway.starts (gate.ticked running) in
+        record done { outs = s.outs ++ done.outs }
+
+abbrev pub gates_tick : List ℕ → NetStep → NetStep
+gates_tick [] s = s
+gates_tick (number ∷ numbers) s = gates_tick numbers (gate_ticks number (gate_at s.net number) s)
+
+abbrev pub ticks : Net → NetStep
+ticks n = gates_tick (map (λ (e : ℕ × Gateway). e.0) n.gates) (still n facts.Done)
+
+abbrev pub by_net : Net → Lucks → NetEvent → NetStep
+by_net n lucks (nets.Subscribe c table period tolerance) =
+    to_subscribe n c lucks (subscribing c table period tolerance) (client_at n.wire.world c)
+by_net n lucks (nets.Unsubscribe c table) =
+    to_subscribe n c lucks (unsubscribing c table) (client_at n.wire.world c)
+by_net n lucks (nets.WriteSync c table period tolerance) = still n facts.Done
+by_net n lucks nets.Tick = ticks n
 
 -- no other node asks
 abbrev pub created : Net → ℕ → Lucks → Node → NetStep
@@ -578,6 +765,7 @@ net_step n (events.Deliver number) lucks = delivered n lucks (slice_get n.sent n
 net_step n (events.Link c up) lucks = linked n c up lucks (device_at n c)
 net_step n (events.Create node table) lucks = created n table lucks node
 net_step n (events.Drop node table) lucks = dropped n table lucks node
+net_step n (events.Net it) lucks = by_net n lucks it
 net_step n (events.Start (nodes.Client c)) lucks = client_started n c lucks
 net_step n (events.Hold (nodes.Gate number)) lucks =
     unless_down n (nodes.Gate number) (carried_on n (wire_step n.wire (events.Hold (nodes.Gate number)) lucks))

@@ -1,5 +1,5 @@
 -- Worked scripts with what they write: a gateway crashes while an answer is on its way, and its client registers again;
--- a client crashes, and its link goes down; a table is made and dropped.
+-- a client crashes, and its link goes down; a table is made and dropped; a client subscribes, and is told of a change.
 use Rattle.std.specs.Prelude.{ℕ, true, false, List, [], ◌∷◌, codes, Some, None, pos}
 use Rattle.stab_base.specs.declared.node.Node.{Node}
 use Rattle.stab_base.specs.declared.node.Node.TheVariants as nodes
@@ -10,6 +10,7 @@ use Rattle.row_value.specs.declared.schema.Schema.{Schema}
 use Rattle.row_value.specs.declared.schema.Scheme.TheVariants.{Causal}
 use Rattle.table_model.specs.declared.event.Event.{Event}
 use Rattle.table_model.specs.declared.event.Event.TheVariants as events
+use Rattle.table_model.specs.declared.event.NetEvent.TheVariants as nets
 use Rattle.table_model.specs.declared.message_name.MessageName.{MessageName}
 use Rattle.table_model.specs.declared.message_name.MessageName.TheVariants as names
 use Rattle.step_tables.specs.Facts.{Line, AnswerLine, FactLine}
@@ -236,4 +237,106 @@ made_and_dropped_written =
     ∷ (ok ∷ sent 7 s1 c1 names.OperationResponse ∷ [])
     ∷ (ok ∷ [])
     ∷ (no_table ∷ [])
+    ∷ []
+
+abbrev pub c2 : Node
+c2 = nodes.Client 2
+
+abbrev pub tick : Event
+tick = events.Net nets.Tick
+
+-- another client without a gateway writes
+abbrev pub subscribed : List Event
+subscribed =
+    events.Store 1
+    ∷ events.Gate 1
+    ∷ events.Table 1 notes
+    ∷ events.Client 1 None (1 ∷ [])
+    ∷ events.Client 2 (Some 1) (1 ∷ [])
+    ∷ events.Net (nets.Subscribe 1 1 2 1)
+    ∷ events.Link 2 true
+    ∷ deliver 0
+    ∷ deliver 1
+    ∷ deliver 2
+    ∷ deliver 3
+    ∷ events.Net (nets.Subscribe 2 1 2 1)
+    ∷ deliver 4
+    ∷ deliver 5
+    ∷ deliver 6
+    ∷ deliver 7
+    ∷ events.Write 1 1 the_row (Row (cells.Int (pos 5) ∷ []) [])
+    ∷ sync
+    ∷ deliver 8
+    ∷ deliver 10
+    ∷ tick
+    ∷ tick
+    ∷ tick
+    ∷ deliver 11
+    ∷ events.Crash g1 0 0
+    ∷ events.Start g1
+    ∷ deliver 12
+    ∷ deliver 13
+    ∷ deliver 14
+    ∷ deliver 16
+    ∷ deliver 17
+    ∷ tick
+    ∷ tick
+    ∷ tick
+    ∷ events.Net (nets.Unsubscribe 2 1)
+    ∷ deliver 19
+    ∷ deliver 20
+    ∷ []
+
+abbrev pub subscribed_written : List (List Line)
+subscribed_written =
+    []
+    ∷ []
+    ∷ []
+    ∷ []
+    ∷ []
+    ∷ (AnswerLine (facts.Refuses (facts.Unregistered 1)) ∷ [])
+    ∷ (ok ∷ sent 0 c2 g1 names.RegisterDevice ∷ [])
+    ∷ (ok ∷ sent 1 g1 c2 names.OperationResponse ∷ sent 2 g1 s1 names.RestoreClientSubscriptions ∷ [])
+    ∷ (ok ∷ [])
+    ∷ (ok ∷ sent 3 s1 g1 names.RestoreClientSubscriptions ∷ [])
+    ∷ (ok ∷ [])
+    ∷ (ok ∷ sent 4 c2 g1 names.SubscribeTable ∷ [])
+    ∷ (ok ∷ sent 5 g1 s1 names.SaveClientSubscription ∷ [])
+    ∷ (ok ∷ sent 6 s1 g1 names.OperationResponse ∷ [])
+    ∷ (ok ∷ sent 7 g1 c2 names.OperationResponse ∷ [])
+    ∷ (ok ∷ [])
+    ∷ (AnswerLine (facts.Number 1) ∷ FactLine (facts.Client (facts.Wrote (record {
+      client = 1;
+      number = 1;
+      table = 1;
+      row = the_row;
+      read = 0;
+      content = Row (cells.Int (pos 5) ∷ []) [];
+    }))) ∷ [])
+    ∷ (AnswerLine (facts.Number 1) ∷ sent 8 c1 s1 names.SyncRequest ∷ [])
+    ∷ (ok ∷ FactLine (facts.Accepted 1 (record {
+      row = the_row;
+      version = 1;
+      client = 1;
+      number = 1;
+      base = 0;
+    })) ∷ sent 9 s1 c1 names.SyncResponse ∷ sent 10 s1 g1 names.TableVersionUpdateNotification ∷ [])
+    ∷ (ok ∷ [])
+    ∷ (ok ∷ [])
+    ∷ (ok ∷ [])
+    ∷ (ok ∷ sent 11 g1 c2 names.Notify ∷ [])
+    ∷ (ok ∷ FactLine (facts.Notified 2 1) ∷ sent 12 c2 g1 names.PullRequest ∷ [])
+    ∷ (ok ∷ [])
+    ∷ (ok ∷ [])
+    ∷ (ok ∷ sent 13 g1 c2 names.OperationResponse ∷ [])
+    ∷ (ok ∷ sent 14 c2 g1 names.RegisterDevice ∷ [])
+    ∷ (ok ∷ sent 15 g1 c2 names.OperationResponse ∷ sent 16 g1 s1 names.RestoreClientSubscriptions ∷ [])
+    ∷ (ok ∷ sent 17 s1 g1 names.RestoreClientSubscriptions ∷ [])
+    ∷ (ok ∷ [])
+    ∷ (ok ∷ [])
+    ∷ (ok ∷ [])
+    ∷ (ok ∷ sent 18 g1 c2 names.Notify ∷ [])
+    ∷ (AnswerLine (facts.Refuses facts.Offline) ∷ [])
+    ∷ (AnswerLine (facts.Refuses (facts.NoPacket 19)) ∷ [])
+    ∷ (AnswerLine (facts.Refuses (facts.NoPacket 19)) ∷ [])
     ∷ []

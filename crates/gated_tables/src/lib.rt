@@ -11,6 +11,7 @@ ghost use Rattle.gated_tables.specs.Net.{start};
 ghost use Rattle.gated_tables.specs.Worked.{written, registering_again, registering_again_written};
 ghost use Rattle.gated_tables.specs.Worked.{client_goes_down, client_goes_down_written};
 ghost use Rattle.gated_tables.specs.Worked.{made_and_dropped, made_and_dropped_written};
+ghost use Rattle.gated_tables.specs.Worked.{subscribed, subscribed_written};
 
 pub use schemas::{is_same_schema, same_schemas_are_equal};
 
@@ -30,4 +31,10 @@ pub fn a_client_that_goes_down()
 /// client closes the table for good. (Does nothing: its clause is a law.)
 pub fn a_table_that_is_made_and_dropped()
     ensures { written start made_and_dropped ≡ made_and_dropped_written }
+{}
+
+/// A client subscribes, and is told of a change once its timer is due; its gateway crashes, and has its timer again,
+/// marked, once the client has registered again and the Store has answered. (Does nothing: its clause is a law.)
+pub fn a_client_that_subscribes()
+    ensures { written start subscribed ≡ subscribed_written }
 {}

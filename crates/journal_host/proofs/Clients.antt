@@ -70,6 +70,8 @@ given_is (facts.Refuses (facts.Outstanding number)) = refl
 given_is (facts.Refuses (facts.Conflicted version)) = refl
 given_is (facts.Refuses facts.NoRow) = refl
 given_is (facts.Refuses (facts.NoPacket sent)) = refl
+given_is (facts.Refuses (facts.Unregistered client)) = refl
+given_is (facts.Refuses (facts.BadSelection place)) = refl
 given_is (facts.Refuses facts.Down) = refl
 given_is (facts.Refuses (facts.NodeDown node)) = refl
 

@@ -47,6 +47,12 @@ fn know_refusal(refusal: &Refusal)
         Refusal::NoPacket { sent } => {
             let _sent: u64 = *sent;
         }
+        Refusal::Unregistered { client } => {
+            let _client: u32 = *client;
+        }
+        Refusal::BadSelection { at } => {
+            let _at: usize = *at;
+        }
         Refusal::Down { node } => know_node(*node),
     }
 }

@@ -183,6 +183,8 @@ fault_only (answers.Refused (refusals.Outstanding number)) e = absurd cc
 fault_only (answers.Refused (refusals.Conflicted version)) e = absurd cc
 fault_only (answers.Refused refusals.NoRow) e = absurd cc
 fault_only (answers.Refused (refusals.NoPacket sent)) e = absurd cc
+fault_only (answers.Refused (refusals.Unregistered client)) e = absurd cc
+fault_only (answers.Refused (refusals.BadSelection place)) e = absurd cc
 fault_only (answers.Refused (refusals.Down node)) e = absurd cc
 
 some_answer : (a b : Answer) (found : Result Answer ClientFault) → found ≡ Ok a → found ≡ Ok b → a ≡ b

@@ -72,6 +72,8 @@ pub data Refusal : Type 0 where
   Conflicted : (version : ℕ) → Refusal
   NoRow : Refusal
   NoPacket : (sent : ℕ) → Refusal
+  Unregistered : (client : ℕ) → Refusal
+  BadSelection : (at : ℕ) → Refusal
   Down : Refusal
   NodeDown : (node : Node) → Refusal
 

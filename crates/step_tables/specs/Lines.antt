@@ -34,6 +34,8 @@ refusal_of refusals.Offline = facts.Offline
 refusal_of (refusals.Outstanding number) = facts.Outstanding number
 refusal_of (refusals.Conflicted version) = facts.Conflicted version
 refusal_of (refusals.NoPacket sent) = facts.NoPacket sent
+refusal_of (refusals.Unregistered client) = facts.Unregistered client
+refusal_of (refusals.BadSelection place) = facts.BadSelection place
 
 abbrev pub shown_of : Shown → facts.Shown
 shown_of (shown.Clean version content) = facts.Clean version content

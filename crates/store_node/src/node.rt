@@ -589,7 +589,7 @@ impl<D: Disk + Drop> TableNode<D> {
     }
 
     /// Begins to put the table into a state, or a client's subscription, in one write. That the table is live, or
-    /// dropped, is told once it is done.
+    /// dropped, or that a subscription is kept, is told once it is done.
     ///
     /// `Busy` where writes are still to be done. `Disk` where a disk failed: the node is then down.
     pub fn place(&mut self, put: SidePut) -> Result<(), NodeFault>

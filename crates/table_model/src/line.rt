@@ -66,6 +66,8 @@ pub enum Refusal {
     Busy { with: u64 },
     /// 18: the client hasn't opened the table.
     NoTable,
+    /// 19: the client has no gateway.
+    Unregistered { client: ClientNo },
     /// 20: the client doesn't resolve the table's conflicts.
     NotInResolution,
     /// 21: the client resolves the table's conflicts.
@@ -82,6 +84,8 @@ pub enum Refusal {
     Conflicted { version: Version },
     /// 27: nothing is shown of the row.
     NoRow,
+    /// 28: the words are no selection, by the word at this place, from 0, or by their count.
+    BadSelection { at: usize },
     /// 29: no packet of this number was sent yet, but so many.
     NoPacket { sent: u64 },
     /// 30: the node is down.

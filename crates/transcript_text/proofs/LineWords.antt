@@ -60,6 +60,8 @@ refusal_words (refusals.Outstanding number) = codes "no" ∷ codes "25" ∷ deci
 refusal_words (refusals.Conflicted version) = codes "no" ∷ codes "26" ∷ decimal version ∷ []
 refusal_words refusals.NoRow = codes "no" ∷ codes "27" ∷ []
 refusal_words (refusals.NoPacket sent) = codes "no" ∷ codes "29" ∷ decimal sent ∷ []
+refusal_words (refusals.Unregistered client) = codes "no" ∷ codes "19" ∷ (codes "C" ++ decimal client) ∷ []
+refusal_words (refusals.BadSelection place) = codes "no" ∷ codes "28" ∷ decimal place ∷ []
 refusal_words (refusals.Down node) = codes "no" ∷ codes "30" ∷ node_word node ∷ []
 
 abbrev pub shown_words : Shown → List (List ℕ)
@@ -116,6 +118,8 @@ refusal_led (refusals.Outstanding number) = simp append-nil
 refusal_led (refusals.Conflicted version) = simp append-nil
 refusal_led refusals.NoRow = refl
 refusal_led (refusals.NoPacket sent) = simp append-nil
+refusal_led (refusals.Unregistered client) = simp append-nil
+refusal_led (refusals.BadSelection place) = simp append-nil
 refusal_led (refusals.Down node) = simp (node_led, append-nil)
 
 shown_led : (shown : Shown) → 32 ∷ shown_text shown ≡ led 32 (shown_words shown)
@@ -169,6 +173,8 @@ refusal_above (refusals.Outstanding number) h = search (rules, decimal_above)
 refusal_above (refusals.Conflicted version) h = search (rules, decimal_above)
 refusal_above refusals.NoRow h = search rules
 refusal_above (refusals.NoPacket sent) h = search (rules, decimal_above)
+refusal_above (refusals.Unregistered client) h = search (rules, decimal_above)
+refusal_above (refusals.BadSelection place) h = search (rules, decimal_above)
 refusal_above (refusals.Down node) h = search (rules, node_above)
 
 shown_above : (shown : Shown) → HasShownText shown → AllByRecursion (IsAbove 32) (shown_words shown)
@@ -367,6 +373,8 @@ refused_word (answers.Refused (refusals.Outstanding number)) = refl
 refused_word (answers.Refused (refusals.Conflicted version)) = refl
 refused_word (answers.Refused refusals.NoRow) = refl
 refused_word (answers.Refused (refusals.NoPacket sent)) = refl
+refused_word (answers.Refused (refusals.Unregistered client)) = refl
+refused_word (answers.Refused (refusals.BadSelection place)) = refl
 
 -- ---- the name of a device write, and names of chunks
 
@@ -604,6 +612,8 @@ answer_kind (answers.Refused (refusals.Outstanding number)) = refl
 answer_kind (answers.Refused (refusals.Conflicted version)) = refl
 answer_kind (answers.Refused refusals.NoRow) = refl
 answer_kind (answers.Refused (refusals.NoPacket sent)) = refl
+answer_kind (answers.Refused (refusals.Unregistered client)) = refl
+answer_kind (answers.Refused (refusals.BadSelection place)) = refl
 
 client_fact_kind : (fact : ClientFact) → kind_in (first_word (client_fact_words fact)) ≡ 2
 unfolding kind_in

@@ -64,6 +64,8 @@ HasRefusalText (refusals.Outstanding number) = number < 2 ^ 64
 HasRefusalText (refusals.Conflicted version) = version < 2 ^ 64
 HasRefusalText refusals.NoRow = Unit {0}
 HasRefusalText (refusals.NoPacket sent) = sent < 2 ^ 64
+HasRefusalText (refusals.Unregistered client) = client < 2 ^ 32
+HasRefusalText (refusals.BadSelection place) = place < 2 ^ 64
 HasRefusalText (refusals.Down node) = HasNodeText node
 
 -- gone, or with a value; a row without one has the text of a number

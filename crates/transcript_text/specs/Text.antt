@@ -81,6 +81,8 @@ refusal_text (refusals.Outstanding number) = codes "no 25 " ++ decimal number
 refusal_text (refusals.Conflicted version) = codes "no 26 " ++ decimal version
 refusal_text refusals.NoRow = codes "no 27"
 refusal_text (refusals.NoPacket sent) = codes "no 29 " ++ decimal sent
+refusal_text (refusals.Unregistered client) = codes "no 19 C" ++ decimal client
+refusal_text (refusals.BadSelection place) = codes "no 28 " ++ decimal place
 refusal_text (refusals.Down node) = codes "no 30" ++ node_text node
 
 abbrev pub shown_text : Shown → List ℕ

@@ -143,6 +143,8 @@ fn put_refusal(out: &mut String, refusal: Refusal) -> Result<(), AllocError>
         Refusal::Conflicted { version } => write!(out, "no 26 {version}"),
         Refusal::NoRow => out.push_str("no 27"),
         Refusal::NoPacket { sent } => write!(out, "no 29 {sent}"),
+        Refusal::Unregistered { client } => write!(out, "no 19 C{client}"),
+        Refusal::BadSelection { at } => write!(out, "no 28 {at}"),
         Refusal::Down { node } => {
             out.push_str("no 30")?;
             put_node(out, node)

@@ -492,6 +492,8 @@ const REFUSED: [(Refusal, &str); 19] = [
     (Refusal::Conflicted { version: 4 }, "no 26 4"),
     (Refusal::NoRow, "no 27"),
     (Refusal::NoPacket { sent: 3 }, "no 29 3"),
+    (Refusal::Unregistered { client: 64 }, "no 19 C64"),
+    (Refusal::BadSelection { at: 0 }, "no 28 0"),
     (
         Refusal::Down {
             node: Node::Store(1),

@@ -6,7 +6,7 @@
 use Rattle.std.specs.Prelude.{ℕ, ◌+◌, ◌-◌, ◌/◌, ◌%◌, ◌^◌, ◌==◌, ◌&&◌, ◌||◌, not, Bool, true, false, List, [], ◌∷◌, ◌++◌, length}
 use Rattle.std.specs.Prelude.{map, fold, filter, drop}
 use Rattle.std.specs.Prelude.{slice_get, nat_le, Option, Some, None, option_to_list, if◌then◌else◌}
-use Rattle.std.specs.List.{flat_map}
+use Rattle.std.specs.List.{flat_map, range_with_len}
 use Rattle.std.specs.Ordering.{nat_cmp}
 use Rattle.std.specs.Map.{lookup}
 use Rattle.std.specs.BTreeMap.{is_at, insert_entry}
@@ -38,7 +38,6 @@ use Rattle.step_tables.specs.ClientMoves.{Client, ClientTask, TableDisk, table_a
 use Rattle.step_tables.specs.StoreMoves.{StoreTask, Terms, version_at}
 use Rattle.world_tables.specs.World.{World, Hosted, Lucks, hosted_at, hosted_by, client_at, schema_at, is_down, is_cut}
 use Rattle.world_tables.specs.World.{is_client_down, busy_live, is_live_state, with_link, owner_of, first_luck}
-use Rattle.world_tables.specs.World.{tables_of}
 use Rattle.part_tables.specs.Parts.{Part, Responds}
 use Rattle.message_parts.specs.Parts.{part_of, message_at}
 use Rattle.wire_tables.specs.Wire.{Wire, PartPacket, PartOutbox, WireStep, brought, part_table, wire_step}
@@ -247,15 +246,15 @@ change_at from table version number = record {
   message = messages.TableVersionUpdateNotification (record { gate = number; table = table; version = version });
 }
 
--- behind the answer that a write is accepted, each of these gateways is told of the version
-abbrev pub changes_for : Net → PartPacket → Response → Outcome → List Sent
-changes_for n p r (calls.Accepted version) =
-    map (change_at p.from r.table version) (gates_for (hosted_at n.wire.world r.table))
-changes_for n p r other = []
+-- behind the answer that a write is accepted, its Store tells each of these gateways of the version, where it is up
+abbrev pub changes_for : World → Node → Response → Outcome → List Sent
+changes_for w from r (calls.Accepted version) = if is_down w from then []
+    else map (change_at from r.table version) (gates_for (hosted_at w r.table))
+changes_for w from r other = []
 
-abbrev pub changes_by : Net → PartPacket → Part → List Sent
-changes_by n p (Responds r) = changes_for n p r r.outcome
-changes_by n p part = []
+abbrev pub changes_by : World → Node → Part → List Sent
+changes_by w from (Responds r) = changes_for w from r r.outcome
+changes_by w from part = []
 
 -- ---- a step of the wire, with what it sends on its way
 
@@ -267,20 +266,21 @@ told_of fact = fact ∷ []
 abbrev pub told_by : Net → Fact → NetOutbox
 told_by n fact = record { facts = told_of fact; sent = sends_by n fact }
 
-abbrev pub passed_with : Net → PartPacket → List Sent
-passed_with n p = routed n p ∷ changes_by n p p.part
+abbrev pub passed_with : Net → World → PartPacket → List Sent
+passed_with n w p = routed n p ∷ changes_by w p.from p.part
 
-abbrev pub passed_on : Net → List PartPacket → NetOutbox
-passed_on n packets = record { facts = []; sent = flat_map (passed_with n) packets }
+abbrev pub passed_on : Net → World → List PartPacket → NetOutbox
+passed_on n w packets = record { facts = []; sent = flat_map (passed_with n w) packets }
 
-abbrev pub outs_by : Net → PartOutbox → List NetOutbox
-outs_by n out = map (told_by n) out.facts ++ passed_on n out.packets ∷ []
+abbrev pub outs_by : Net → World → PartOutbox → List NetOutbox
+outs_by n w out = map (told_by n) out.facts ++ passed_on n w out.packets ∷ []
 
-abbrev pub outs_of : Net → List PartOutbox → List NetOutbox
-outs_of n outs = flat_map (outs_by n) outs
+abbrev pub outs_of : Net → World → List PartOutbox → List NetOutbox
+outs_of n w outs = flat_map (outs_by n w) outs
 
+-- what is sent on the way is as it was before the step, but for the news of changes, which are read behind it
 abbrev pub carried_on : Net → WireStep → NetStep
-carried_on n s = let outs : List NetOutbox = outs_of n s.outs in record {
+carried_on n s = let outs : List NetOutbox = outs_of n s.wire.world s.outs in record {
   net = record n { wire = s.wire; sent = n.sent ++ flat_map (λ (out : NetOutbox). out.sent) outs };
   answer = s.answer;
   counted = s.counted;
@@ -347,32 +347,30 @@ abbrev pub is_open : Option TableDisk → Bool
 is_open None = false
 is_open (Some table) = not table.closed
 
--- the declared tables whose bits stand, by rising number
+-- the tables whose bits stand, by rising number
 abbrev pub is_told : ℕ → ℕ → Bool
 is_told bits table = (bits / 2 ^ (table - 1)) % 2 == 1
 
-abbrev pub tables_told : World → ℕ → List ℕ
-tables_told w bits = filter (is_told bits) (map (λ (e : ℕ × Schema). e.0) w.schemas)
-
-abbrev pub opened_at : World → ℕ → ℕ → Bool
-opened_at w c table = by_client (client_at w c)
-  where
-    by_client : Option Client → Bool
-    by_client None = false
-    by_client (Some node) = is_open (table_at (seen node.disk) table)
+abbrev pub tables_told : ℕ → List ℕ
+tables_told bits = filter (is_told bits) (range_with_len 1 64)
 
 abbrev pub has_failed : Option Answer → Bool
 has_failed (Some (facts.Refuses facts.NoDevice)) = true
 has_failed other = false
 
--- it asks for the next change of each that it has opened; where its disk fails it goes down, and asks for no more
+-- an ask that is refused changes nothing, but where the disk fails
+abbrev pub asked_too : NetStep → NetStep → NetStep
+asked_too s next = record next {
+  answer = if has_failed next.answer then next.answer else s.answer;
+  outs = s.outs ++ next.outs;
+}
+
+-- the client asks for the next change of each; where its disk fails it goes down, and asks for no more
 abbrev pub asks_each : ℕ → List ℕ → Lucks → NetStep → NetStep
 asks_each c [] lucks s = s
-asks_each c (table ∷ tables) lucks s =
-    if has_failed s.answer || not (opened_at s.net.wire.world c table) then asks_each c tables lucks s
-    else (let next : NetStep = carried_on s.net (wire_step s.net.wire (events.Ask c table) lucks) in
-    asks_each c tables (record lucks { calls = drop 1 lucks.calls })
-    (record next { answer = if has_failed next.answer then next.answer else s.answer; outs = s.outs ++ next.outs }))
+asks_each c (table ∷ tables) lucks s = if has_failed s.answer then s
+    else asks_each c tables (record lucks { calls = drop 1 lucks.calls })
+    (asked_too s (carried_on s.net (wire_step s.net.wire (events.Ask c table) lucks)))
 
 abbrev pub changes_come : Net → ℕ → ℕ → NetStep
 changes_come n c bits = record {
@@ -384,9 +382,9 @@ changes_come n c bits = record {
 
 -- its link decides whether it takes the message, and not its session
 abbrev pub changes_told : Net → ℕ → ℕ → Lucks → Option Device → NetStep
-changes_told n c bits lucks None = asks_each c (tables_told n.wire.world bits) lucks (changes_come n c bits)
+changes_told n c bits lucks None = asks_each c (tables_told bits) lucks (changes_come n c bits)
 changes_told n c bits lucks (Some d) =
-    let s : NetStep = asks_each c (tables_told n.wire.world bits) lucks
+    let s : NetStep = asks_each c (tables_told bits) lucks
         (changes_come (record n { wire = cutting c d.linked n.wire }) c bits) in
     record s { net = cut_by c d s.net }
 
@@ -418,7 +416,7 @@ sub_at client table (Some hosted) = if is_live_state hosted.store.disk.state
 
 abbrev pub subs_of_client : World → ℕ → ℕ → List TableSubscription
 subs_of_client w number client =
-    flat_map (λ (table : ℕ). sub_at client table (hosted_at w table)) (tables_of w number)
+    flat_map (λ (table : ℕ). sub_at client table (hosted_by w number table)) (range_with_len 1 64)
 
 -- to a Store: what a client has sent comes from it, through a gateway or not
 abbrev pub restoring : Net → ℕ → Sent → RestoreClientSubscriptions → Sent

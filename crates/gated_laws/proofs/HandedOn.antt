@@ -267,3 +267,17 @@ module _ (w : World) where
     handed_on (nodes.Client client) m = client_sends client m
     handed_on (nodes.Store store) m = store_handed m
     handed_on (nodes.Gate gate) m = tt
+
+-- ---- at a tick no part is sent
+
+notices_bare : (tells : Session → Option ℕ) (sessions : List (ℕ × Session)) → AllByRecursion (λ (send : Node × Message). part_of send.1 ≡ None) (notices tells sessions)
+notices_bare tells [] = tt
+notices_bare tells (e ∷ sessions) = go (notices_bare tells sessions) (tells e.1)
+  where
+    go : AllByRecursion (λ (send : Node × Message). part_of send.1 ≡ None) (notices tells sessions) → (o : Option ℕ)
+        → AllByRecursion (λ (send : Node × Message). part_of send.1 ≡ None) (map (λ tables. notify e.0 tables) (option_to_list o) ++ notices tells sessions)
+    go rest None = rest
+    go rest (Some tables) = (refl, rest)
+
+pub ticked_bare : (running : Running) → AllByRecursion (λ (send : Node × Message). part_of send.1 ≡ None) (gate.ticked running).sends
+ticked_bare running = notices_bare gate.told_at_tick running.sessions

@@ -10,7 +10,7 @@ use Rattle.stab_base.specs.declared.node.Node.{Node}
 use Rattle.stab_base.specs.declared.node.Node.TheVariants as nodes
 use Rattle.table_model.specs.declared.event.Event.{Event}
 use Rattle.table_model.specs.declared.event.Event.TheVariants as events
-use Rattle.step_tables.specs.Facts.{Fact, Answer, AnswerLine, FactLine, Line}
+use Rattle.step_tables.specs.Facts.{Fact, Answer, AnswerLine, Line}
 use Rattle.step_tables.specs.Facts as facts
 use Rattle.step_tables.specs.Members.{Among}
 use Rattle.step_tables.proofs.Lists.{among_none, among_cons, among_left, among_either, among_right, among_mapped}
@@ -281,7 +281,7 @@ carries_more n event x c = record {
   kept = c.kept;
 }
 
-few_links : (u v : Wire) (l : IsLinked u v) → length l.run ≤ 65
+pub few_links : (u v : Wire) (l : IsLinked u v) → length l.run ≤ 65
 few_links u v l = let few = l.few in omega (arith, few)
 
 untold_any : (event : Event) (told : List Fact) → told ≡ [] → IsUntold event told

@@ -328,7 +328,7 @@ module _ (n : Net) (k : IsKeptNet n) where
           first = record {
             telling = record { answer = refl; counted = refl; sent = sym (append-nil n.sent); silent = (((refl, tt), (tt, tt)), tt) };
             besides = links_besides n.wire n.wire (none_linked n.wire k.wire);
-            few = (none_linked n.wire k.wire).few;
+            few = omega arith;
             kept = k;
           }
       told_carries c bits here up (Some d) some = then_carries n deliver x carries_x (cut_by c d x.net)

@@ -1,5 +1,5 @@
 -- What every wire keeps that built events lead to: what is in memory is of nodes that are up, and each part goes its way.
-use Rattle.std.proofs.Common.{◌≡◌, inl, inr, ⊎_elim, ℕ, Bool, true, false, List, [], ◌∷◌, ◌++◌, Option, Some, None, refl, sym, ◌∙◌, ap, subst, append-nil, append_assoc, true≢false, length, ◌≤◌, arith, length-append}
+use Rattle.std.proofs.Common.{◌≡◌, inl, inr, ⊎_elim, ℕ, Bool, true, false, List, [], ◌∷◌, ◌++◌, Option, Some, None, refl, sym, ◌∙◌, ap, subst, append-nil, append_assoc, true≢false, length, ◌≤◌, ◌+◌, arith, length-append}
 use Rattle.std.specs.Prelude.{map, is_some}
 use Rattle.std.specs.List.{AllByRecursion}
 use Rattle.std.proofs.lemmas.List.{map-append}
@@ -324,7 +324,7 @@ cut_linked v k c up there is_up = go (client_at v.world c) refl
 pub linked_sends : (v later : Wire) (l : IsLinked v later) → wires_to later.packets ≡ wires_to v.packets ++ sent_among (turns_from v l.run)
 linked_sends v later l = ap wires_to l.packets ∙ (sym (append-nil (wires_to v.packets)) ∙ ap (λ (ns : List Node). wires_to v.packets ++ ns) (sym l.silent))
 
-pub links_besides : (v later : Wire) → IsLinked v later → IsBesides v later
+abbrev pub links_besides : (v later : Wire) → IsLinked v later → IsBesides v later
 links_besides v later l = record { run = l.run; built = l.built; is = l.is; turns = l.turns; packets = linked_sends v later l }
 
 -- ---- asks
@@ -353,6 +353,11 @@ ask_besides v k c table lucks a answered = record {
   where
     s : WireStep
     s = wire_step v (events.Ask c table) lucks
+
+pub one_more : (u v : Wire) (b : IsBesides u v) (k : IsKeptWire v) (c table : ℕ) (lucks : Lucks) (a : IsAskOf (wire_step v (events.Ask c table) lucks)) (is : IsAskAnswer a.answer)
+    → length (then_besides u v (wire_step v (events.Ask c table) lucks).wire b (ask_besides v k c table lucks a is)).run ≡ length b.run + 1
+unfolding then_besides ask_besides
+one_more u v b k c table lucks a is = length-append b.run (record { event = events.Ask c table; lucks = lucks } ∷ [])
 
 pub start_kept : IsKeptWire start
 start_kept = record { run = []; built = tt; is = refl; remembered = start_remembered; addressed = start_addressed }

@@ -216,6 +216,7 @@ lines_carried n m v s = record {
     outs = outs_of m s.wire.world s.outs
 
 pub lines_untold : (n m : Net) (v : Wire) (s : WireStep) → (lines_carried n m v s).others ≡ [] → (lines_carried n m v s).told ≡ []
+unfolding wire_told lines_carried
 lines_untold n m v s none = none_told m s.wire.world (length n.sent) (length v.packets) s.outs none
 
 -- ---- what is sent

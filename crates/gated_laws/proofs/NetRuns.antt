@@ -181,7 +181,7 @@ module _ (n : Net) (k : IsSilent n) where
         carries = c;
         silent = record {
           kept = c.kept;
-          sent = ap (λ (outs : List wires.PartOutbox). (carried_on n (record { wire = n.wire; answer = None; counted = []; outs = outs })).net.sent) none ∙ (append-nil n.sent ∙ k.sent);
+          sent = ap (λ (outs : List wires.PartOutbox). (carried_on n (record (wire_step n.wire other lucks) { outs = outs })).net.sent) none ∙ (append-nil n.sent ∙ k.sent);
           packets = d.packets;
           whole = d.whole;
         };

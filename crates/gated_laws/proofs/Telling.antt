@@ -1,6 +1,6 @@
 -- Steps that tell nothing but what they send: a tick of the gateways, and a client that is told of changes and asks for
 -- the next one of each table.
-use Rattle.std.proofs.Common.{◌≡◌, ◌≤◌, inl, inr, ⊎_elim, ℕ, suc, ◌+◌, arith, Bool, true, false, List, [], ◌∷◌, ◌++◌, length, Option, Some, None, refl, sym, ◌∙◌, ap, subst, append-nil, append_assoc, length-append}
+use Rattle.std.proofs.Common.{◌≡◌, ◌≤◌, inl, inr, ⊎_elim, ℕ, suc, ◌+◌, arith, Bool, true, false, List, [], ◌∷◌, ◌++◌, length, Option, Some, None, refl, sym, ◌∙◌, ap, subst, append-nil, append_assoc}
 use Rattle.std.specs.Prelude.{map, filter, drop, slice_get, option_to_list, if◌then◌else◌}
 use Rattle.std.specs.List.{AllByRecursion, flat_map, range_with_len}
 use Rattle.std.proofs.lemmas.List.{map-append}
@@ -29,7 +29,7 @@ use Rattle.gated_laws.proofs.NetLines.{to_of, wires_to, packets_by, told, lines_
 use Rattle.gated_laws.proofs.NetLines as lines
 use Rattle.gated_laws.proofs.Remembered.{shaped}
 use Rattle.gated_laws.proofs.AskSteps.{IsAskOf, ask_of, ask_lines}
-use Rattle.gated_laws.proofs.KeptWires.{KeepsWire, step_keeps, plain_step, IsBesides, then_besides, none_linked, links_besides, ask_besides}
+use Rattle.gated_laws.proofs.KeptWires.{KeepsWire, step_keeps, plain_step, IsBesides, then_besides, none_linked, links_besides, ask_besides, one_more}
 use Rattle.gated_laws.proofs.KeptNets.{AreParts, IsKeptNet, no_part, Carries, few_links, shares}
 
 -- so far nothing has failed
@@ -170,7 +170,7 @@ not_failed facts.Done is = refl
 not_failed (facts.Refuses refusal) is = by_refusal refusal is
   where
     by_refusal : (r : Refusal) → IsAskAnswer (facts.Refuses r) → has_failed (Some (facts.Refuses r)) ≡ false
-    by_refusal facts.NoDevice no = absurd no
+    by_refusal facts.NoDevice failed = absurd failed
     by_refusal other plain = refl
 not_failed other is = absurd is
 
@@ -182,14 +182,13 @@ asks_end c (table ∷ tables) lucks s failed =
 
 pub asks_devices : (c : ℕ) (tables : List ℕ) (lucks : Lucks) (s : NetStep) → (asks_each c tables lucks s).net.devices ≡ s.net.devices
 asks_devices c [] lucks s = refl
-asks_devices c (table ∷ tables) lucks s = go (has_failed s.answer)
+asks_devices c (table ∷ tables) lucks s =
+    let next : NetStep = asked_too s (carried_on s.net (wire_step s.net.wire (events.Ask c table) lucks)) in
+    either (has_failed s.answer) (asks_each c tables (record lucks { calls = drop 1 lucks.calls }) next) (asks_devices c tables (record lucks { calls = drop 1 lucks.calls }) next)
   where
-    next : NetStep
-    next = asked_too s (carried_on s.net (wire_step s.net.wire (events.Ask c table) lucks))
-
-    go : (b : Bool) → (λ (x : NetStep). x.net.devices ≡ s.net.devices) (if b then s else asks_each c tables (record lucks { calls = drop 1 lucks.calls }) next)
-    go true = refl
-    go false = asks_devices c tables (record lucks { calls = drop 1 lucks.calls }) next
+    either : (b : Bool) (more : NetStep) → more.net.devices ≡ s.net.devices → (λ (x : NetStep). x.net.devices ≡ s.net.devices) (if b then s else more)
+    either true more same = refl
+    either false more same = same
 
 pub record IsAsking (n : Net) (most : ℕ) (s : NetStep) : Type 0 where
   pub telling : IsTelling n s
@@ -241,7 +240,7 @@ module _ (n : Net) (number c : ℕ) (there : slice_get (to_of n.sent) number ≡
         silent = silent_next;
       };
       besides = then_besides n.wire v w.wire x.besides (ask_besides v x.kept.wire c table lucks a is);
-      few = let few = x.few in let longer = length-append x.besides.run (ask_besides v x.kept.wire c table lucks a is).run in omega (arith, few, longer);
+      few = let few = x.few in let longer = one_more n.wire v x.besides x.kept.wire c table lucks a is in omega (arith, few, longer);
       kept = kept_next;
     }
 
@@ -287,7 +286,8 @@ module _ (n : Net) (number c : ℕ) (there : slice_get (to_of n.sent) number ≡
   -- where one fails, it is the delivery's own turn; else the delivery stands alone behind them
   pub asks_carry : (tables : List ℕ) (lucks : Lucks) (most : ℕ) (s : NetStep) → IsAsking n most s → most + length tables ≤ 65 → Carries 0 n event (asks_each c tables lucks s)
   asks_carry [] lucks most s x room = telling_alone n event s lone_done x.telling x.besides (let few = x.few in omega (arith, few, room)) x.kept
-  asks_carry (table ∷ tables) lucks most s x room = subst (λ (y : NetStep). Carries 0 n event y) (sym here) (⊎_elim asked failed (a most s x table lucks).either)
+  asks_carry (table ∷ tables) lucks most s x room = subst (λ (y : NetStep). Carries 0 n event y) (sym here)
+      (⊎_elim (λ is. asks_carry tables later (suc most) following (asked_on most s x table lucks is) (omega (arith, room))) failed (a most s x table lucks).either)
     where
       later : Lucks
       later = record lucks { calls = drop 1 lucks.calls }
@@ -297,9 +297,6 @@ module _ (n : Net) (number c : ℕ) (there : slice_get (to_of n.sent) number ≡
 
       here : asks_each c (table ∷ tables) lucks s ≡ asks_each c tables later following
       here = ap (λ (b : Bool). if b then s else asks_each c tables later following) (ap has_failed x.telling.answer)
-
-      asked : IsAskAnswer (a most s x table lucks).answer → Carries 0 n event (asks_each c tables later following)
-      asked is = asks_carry tables later (suc most) following (asked_on most s x table lucks is) (omega (arith, room))
 
       failed : (a most s x table lucks).answer ≡ facts.Refuses facts.NoDevice → Carries 0 n event (asks_each c tables later following)
       failed e = subst (λ (y : NetStep). Carries 0 n event y) (sym (asks_end c tables later following (ap has_failed (failed_answer most s x table lucks e))))

@@ -22,9 +22,8 @@ use Rattle.gate_tables.specs.declared.timer.Placed.{Placed}
 use Rattle.gate_tables.specs.declared.timer.Asked.{Asked}
 use Rattle.gate_tables.specs.declared.timer.Wish.{Wish}
 use Rattle.gate_tables.specs.declared.timer.Wish.TheVariants as wishes
-use Rattle.gate_tables.specs.Gate.{Session, Running, Directory, Done, Sends, placed, session_of, has_token_left, asks, drawing, registered, asked, passed, goes_on, to_owner, by_session, by_asked}
-use Rattle.gate_tables.specs.Gate.{from_client}
-use Rattle.gate_tables.specs.Gate.{client_of, to_client, restore, notices, changed, from_store, taken, quiet, notify}
+use Rattle.gate_tables.specs.Gate.{Session, Running, Directory, Done, Sends, placed, session_of, has_token_left, asks, drawing, registered, asked, passed, to_owner, by_session, by_asked}
+use Rattle.gate_tables.specs.Gate.{client_of, to_client, restore, notices, from_store, taken, quiet, notify}
 use Rattle.gate_tables.specs.Gate as gate
 use Rattle.gated_tables.specs.Devices.{stamped}
 use Rattle.gated_tables.specs.Net.{place_of, places_in, directory_of}

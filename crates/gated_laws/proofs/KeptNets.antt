@@ -16,7 +16,7 @@ use Rattle.step_tables.specs.Members.{Among}
 use Rattle.step_tables.proofs.Lists.{among_none, among_cons, among_left, among_either, among_right, among_mapped}
 use Rattle.world_tables.specs.Quiet.{sent_in}
 use Rattle.world_tables.specs.Turns.{Happening}
-use Rattle.world_tables.specs.World.{World, Lucks, client_at, is_client_down, hosted_at, is_down}
+use Rattle.world_tables.specs.World.{World, Lucks, client_at, is_client_down}
 use Rattle.step_tables.specs.Messages.{Outcome, Accepted}
 use Rattle.fair_laws.specs.Reached.{IsBuilt}
 use Rattle.fair_laws.proofs.Hosting.{all_after}
@@ -122,12 +122,8 @@ module _ (n : Net) where
     none_changed : (from : Node) (part : Part) (p : Sent) → Among (changes_by w from part) p → part_of p.message ≡ None
     none_changed from (Responds r) p a = by_outcome r.outcome a
       where
-        by_down : (version : ℕ) (b : Bool) → Among (if b then [] else map (change_at from r.table version) (gates_for (hosted_at w r.table))) p → part_of p.message ≡ None
-        by_down version true more = absurd (among_none p more)
-        by_down version false more = let x = among_mapped (change_at from r.table version) (gates_for (hosted_at w r.table)) p more in ap (λ (s : Sent). part_of s.message) (sym x.2)
-
         by_outcome : (outcome : Outcome) → Among (changes_for w from r outcome) p → part_of p.message ≡ None
-        by_outcome (Accepted version) b = by_down version (is_down w from) b
+        by_outcome (Accepted version) b = let x = among_mapped (change_at from r.table version) (gates_for w r.table) p b in ap (λ (s : Sent). part_of s.message) (sym x.2)
         by_outcome other b = absurd (among_none p b)
     none_changed from other p a = absurd (among_none p a)
 

@@ -16,12 +16,12 @@ use Rattle.world_laws.proofs.Looks.{look_cases}
 use Rattle.fair_laws.specs.Reached.{IsBuilt}
 use Rattle.wire_tables.specs.Wire.{Wire, WireStep, wire_step}
 use Rattle.wire_tables.specs.Wire as wires
-use Rattle.wire_tables.specs.Runs.{wire_from, wire_turns}
+use Rattle.wire_tables.specs.Runs.{wire_from}
 use Rattle.wire_tables.specs.Runs as wire_runs
 use Rattle.wire_laws.specs.Runs.{AreBuilt}
 use Rattle.gate_tables.specs.Gate.{Gateway}
 use Rattle.gated_tables.specs.Devices.{new_device}
-use Rattle.gated_tables.specs.Net.{Net, NetStep, start, gate_at, device_at, lines_of, with_device, carried_on, joined_by, gate_declared, net_step}
+use Rattle.gated_tables.specs.Net.{Net, NetStep, start, gate_at, lines_of, with_device, carried_on, joined_by, gate_declared, net_step}
 use Rattle.gated_tables.specs.Net as net
 use Rattle.gated_tables.specs.Runs.{net_from, turns_from}
 use Rattle.gated_laws.specs.Carried.{IsLone, IsEventCarried, IsTurnCarried, AreBeside, sent_among, AreCarriedFrom}

@@ -41,7 +41,7 @@ use Rattle.wire_tables.specs.Wire.{PartPacket, part_table, wire_step}
 use Rattle.step_tables.specs.Facts as facts
 use Rattle.table_model.specs.declared.message.TableSubscription.{TableSubscription}
 use Rattle.gated_tables.specs.Net.{Net, NetStep, Sent, start, gate_at, device_at, is_node_down, unless_down, has_none, cut_by, restarted, client_taken, answered, if_idle, agenda_in}
-use Rattle.gated_tables.specs.Net.{answer_taken, to_client, restored, to_store, directory_of, gate_done, to_gate, delivered_to, delivered, relinked, linked, joined_by, joined, gate_declared}
+use Rattle.gated_tables.specs.Net.{answer_taken, to_client, restored, to_store, directory_of, to_gate, delivered_to, delivered, relinked, linked, joined, gate_declared}
 use Rattle.gated_tables.specs.Net.{Asker, of_session, says_gone, says_made, answer_heard, is_linked, unless_busy, answering, asked_by, is_schema, creates, drops, to_create, to_drop, turned_away}
 use Rattle.gated_tables.specs.Net.{part_taken, is_shut, unless_away, asks_create, asks_drop, to_ask, is_open, to_give, if_read, to_end}
 use Rattle.gated_tables.specs.Net.{is_client, saves, to_save, has_failed, tables_told, asked_too, asks_each, changes_come, changes_told}
@@ -288,7 +288,7 @@ module _ (most : ℕ) (n : Net) (all : AreGatesFew most n) where
   restored_net s p m (Some table) = kept
   restored_net s p m None = go m.reply
     where
-      go : (b : Bool) → AreFewBehind (if b then net.still n facts.Done else net.sending n (net.restoring s p m ∷ []))
+      go : (b : Bool) → AreFewBehind (if b then net.still n facts.Done else net.sending n (net.restoring n s p m ∷ []))
       go true = kept
       go false = kept
 

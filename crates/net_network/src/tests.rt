@@ -1,6 +1,6 @@
 use super::*;
 use part_network::NetworkFault;
-use stab_base::Sequence;
+use row_value::Sequence;
 use std::alloc::{AllocError, Global};
 use std::test::Fail;
 use table_model::{
@@ -114,23 +114,19 @@ fn a_drop_and_its_answer_are_read(rt: HostRuntime) -> Result<(), Fail> {
 }
 
 /// A Store answers that a client subscribes to table 2 every 5 ticks, with 1 more.
-fn restoring(alloc: Global) -> Result<Message, AllocError> {
+fn send_restored(alloc: Global, network: &mut Network) -> Result<(), NetworkFault> {
     let mut subscriptions = Sequence::new(alloc);
     subscriptions.push(TableSubscription {
         table: 2,
         period: 5,
         tolerance: 1,
     })?;
-    Ok(Message::RestoreClientSubscriptions(RestoreClientSubscriptions {
+    let message = Message::RestoreClientSubscriptions(RestoreClientSubscriptions {
         client: 3,
         gate: 2,
         reply: true,
         subscriptions,
-    }))
-}
-
-fn send_restored(alloc: Global, network: &mut Network) -> Result<(), NetworkFault> {
-    let message = restoring(alloc)?;
+    });
     know_frame(&message);
     network.send(STORE, GATE, &message)
 }

@@ -179,7 +179,7 @@ carried_held state n s lines world k held gates devices numbered askers asked = 
 
 pub bytes_behind : (n : Net) (s : WireStep) → bytes_of n.wire.packets ≤ net_bytes n.sent → s.wire.packets ≡ n.wire.packets ++ packets_by s.outs → bytes_of s.wire.packets ≤ net_bytes (carried_on n s).net.sent
 bytes_behind n s h grown =
-    subst (λ (ps : List PartPacket). bytes_of ps ≤ net_bytes (carried_on n s).net.sent) (sym grown) (bytes_carried n n.wire.packets n.sent s.outs h)
+    subst (λ (ps : List PartPacket). bytes_of ps ≤ net_bytes (carried_on n s).net.sent) (sym grown) (bytes_carried n s.wire.world n.wire.packets n.sent s.outs h)
 
 pub less_than : (a b c : ℕ) → a < b → b ≤ c → a < c
 less_than a b c x y = omega arith

@@ -13,6 +13,7 @@ pub mod Onward
 pub mod Along
 pub mod CarriedOut
 pub mod Said
+pub mod Changed
 pub mod Brought
 pub mod Linking
 pub mod Delivered

@@ -10,5 +10,6 @@ pub mod Handing
 pub mod Alone
 pub mod Through
 pub mod Walking
+pub mod Changing
 pub mod Delivering
 pub mod Requesting

@@ -6,6 +6,7 @@ mod answer;
 mod asker;
 mod asking;
 mod carry;
+mod changes;
 mod close;
 mod declare;
 mod deeds;

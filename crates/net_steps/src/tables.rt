@@ -68,18 +68,17 @@ impl<D: Disk + Drop> World<D> {
         &mut self,
         table: TableNo,
         asker: Asker,
-        kind: u8,
         status: u32,
     ) -> Result<Lines, WorldFault>
         requires here { (is_out : ℕ → Bool) × (to : ANode) × (n : Net) × IsUpIn D.state is_out to n self.old
-            × IsToAnswer D.state n.wire.world n.wire table asker.client kind status self.old }
+            × IsToAnswer D.state n.wire.world n.wire table asker.client asker.kind status self.old }
         ensures { (is_out : ℕ → Bool) (to : ANode) (n : Net) → IsUpIn D.state is_out to n self.old
-            → IsToAnswer D.state n.wire.world n.wire table asker.client kind status self.old
-            → Delivers D.state D.images n (λ lucks. answering n table (asker_of asker) kind status) result is_out
+            → IsToAnswer D.state n.wire.world n.wire table asker.client asker.kind status self.old
+            → Delivers D.state D.images n (λ lucks. answering n table (asker_of asker) status) result is_out
             self.old self.new }
     {
         let mut lines = self.only(Answer::Done)?;
-        self.answer(table, asker, kind, status, &mut lines)?;
+        self.answer(table, asker, status, &mut lines)?;
         Ok(lines)
     }
 
@@ -146,7 +145,7 @@ impl<D: Disk + Drop> World<D> {
         ensures depot { IsCounted DepotFailed (P.state depot.old).faults (P.state depot.new).faults result }
     {
         if !self.is_declared(asked.table, &asked.schema) {
-            return self.answer_alone(asked.table, asker, 2, 18);
+            return self.answer_alone(asked.table, asker, 18);
         }
         let event = Event::Create {
             node: Node::Store(store),
@@ -164,9 +163,9 @@ impl<D: Disk + Drop> World<D> {
             (λ lucks. creates n store (asker_of asker) asked.now lucks states.Live) result is_out self.old self.new }
     {
         if self.is_declared(asked.table, &asked.schema) {
-            return self.answer_alone(asked.table, asker, 2, 0);
+            return self.answer_alone(asked.table, asker, 0);
         }
-        self.answer_alone(asked.table, asker, 2, 18)
+        self.answer_alone(asked.table, asker, 18)
     }
 
     fn create_by<P: Depot<Disk = D>>(
@@ -188,7 +187,7 @@ impl<D: Disk + Drop> World<D> {
         match state {
             TableState::Draft => self.create_draft(depot, store, asker, asked),
             TableState::Live => self.create_live(asker, asked),
-            TableState::Dropped => self.answer_alone(asked.table, asker, 2, 18),
+            TableState::Dropped => self.answer_alone(asked.table, asker, 18),
         }
     }
 
@@ -218,6 +217,7 @@ impl<D: Disk + Drop> World<D> {
                 let asker = Asker {
                     client: asked.client,
                     to: from,
+                    kind: 2,
                 };
                 self.create_by(depot, store, asker, asked, state)
             }
@@ -271,7 +271,7 @@ impl<D: Disk + Drop> World<D> {
                 };
                 self.alter(depot, &event, table, asker)
             }
-            _ => self.answer_alone(table, asker, 3, 18),
+            _ => self.answer_alone(table, asker, 18),
         }
     }
 
@@ -300,6 +300,7 @@ impl<D: Disk + Drop> World<D> {
                 let asker = Asker {
                     client: asked.client,
                     to: from,
+                    kind: 3,
                 };
                 self.drop_by(depot, store, asker, asked.table, state)
             }
@@ -388,8 +389,9 @@ impl<D: Disk + Drop> World<D> {
                 let asker = Asker {
                     client: asked.client,
                     to: from,
+                    kind: asked.kind,
                 };
-                self.answer_alone(asked.table, asker, asked.kind, 18)
+                self.answer_alone(asked.table, asker, 18)
             }
             None => self.only(Answer::Done),
         }

@@ -13,3 +13,4 @@ pub mod Walking
 pub mod Changing
 pub mod Delivering
 pub mod Requesting
+pub mod Ticking

@@ -18,10 +18,13 @@ mod kinds;
 mod links;
 mod reading;
 mod restore;
+mod saving;
 mod say;
 mod session;
+mod subscribe;
 mod tables;
 mod through;
+mod tick;
 mod world;
 
 pub use world::World;

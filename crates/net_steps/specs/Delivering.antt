@@ -168,6 +168,7 @@ response_in other = None
 abbrev pub told_in : Option Message → Told
 told_in (Some (messages.CreateTable m)) = tells.Create m
 told_in (Some (messages.DropTable m)) = tells.Drop m
+told_in (Some (messages.SaveClientSubscription m)) = tells.Save m
 told_in (Some (messages.RestoreClientSubscriptions m)) = tells.Restore m
 told_in other = tells.Nothing
 
@@ -191,10 +192,11 @@ abbrev pub IsOfClient : Option Asked → Type 0
 IsOfClient None = Unit {0}
 IsOfClient (Some a) = IsClient a.client
 
--- an event that has a Store make or drop a table
+-- an event that has a Store make or drop a table, or keep a client's subscription to it
 abbrev pub Alters : Event → Type 0
 Alters (events.Create (nodes.Store number) table) = Unit {0}
 Alters (events.Drop (nodes.Store number) table) = Unit {0}
+Alters (events.Save number table client terms) = IsClient client
 Alters other = ⊥
 
 -- and one that has this client open or close one

@@ -1,5 +1,5 @@
 -- A tick at one gateway after the other.
-use Rattle.std.specs.Prelude.{◌≡◌, ◌+◌, ℕ, List, [], Option, Some, length, map}
+use Rattle.std.specs.Prelude.{◌≡◌, ◌+◌, ℕ, List, [], Some, length, map}
 use Rattle.std.specs.List.{flat_map}
 use Rattle.disk_trait.specs.Calls.{DiskState}
 use Rattle.table_model.specs.declared.line.TextLine.{TextLine}

@@ -51,13 +51,13 @@ module _ (n : Net) (store : ℕ) (a : Asker) (m : DropTable) (table : ℕ) (is :
 -- who asked is where the answer goes
 module _ (n : Net) (store : ℕ) (s : TableState) (p : Sent) (from : Node) (is : p.from ≡ from) where
   pub idle_create : (m : CreateTable) → IsStateOf (Some s) (hosted_by n.wire.world store m.table) → is_at_work n.wire.world m.table ≡ false → (lucks : Lucks)
-      → to_create n store p m lucks (hosted_by n.wire.world store m.table) ≡ creates n store (record { client = m.client; to = from }) m lucks s
+      → to_create n store p m lucks (hosted_by n.wire.world store m.table) ≡ creates n store (record { client = m.client; to = from; kind = 2 }) m lucks s
   idle_create m k e lucks =
-      idle_step n store m.table s k (to_create n store p m lucks) (creates n store (record { client = m.client; to = p.from }) m lucks) (λ hosted. refl) e
-      ∙ ap (λ (to : Node). creates n store (record { client = m.client; to = to }) m lucks s) is
+      idle_step n store m.table s k (to_create n store p m lucks) (creates n store (record { client = m.client; to = p.from; kind = 2 }) m lucks) (λ hosted. refl) e
+      ∙ ap (λ (to : Node). creates n store (record { client = m.client; to = to; kind = 2 }) m lucks s) is
 
   pub idle_drop : (m : DropTable) → IsStateOf (Some s) (hosted_by n.wire.world store m.table) → is_at_work n.wire.world m.table ≡ false → (lucks : Lucks)
-      → to_drop n store p m lucks (hosted_by n.wire.world store m.table) ≡ drops n store (record { client = m.client; to = from }) m lucks s
+      → to_drop n store p m lucks (hosted_by n.wire.world store m.table) ≡ drops n store (record { client = m.client; to = from; kind = 3 }) m lucks s
   idle_drop m k e lucks =
-      idle_step n store m.table s k (to_drop n store p m lucks) (drops n store (record { client = m.client; to = p.from }) m lucks) (λ hosted. refl) e
-      ∙ ap (λ (to : Node). drops n store (record { client = m.client; to = to }) m lucks s) is
+      idle_step n store m.table s k (to_drop n store p m lucks) (drops n store (record { client = m.client; to = p.from; kind = 3 }) m lucks) (λ hosted. refl) e
+      ∙ ap (λ (to : Node). drops n store (record { client = m.client; to = to; kind = 3 }) m lucks s) is

@@ -79,7 +79,7 @@ impl<D: Disk + Drop> World<D> {
     }
 
     // By rising number.
-    fn tell_gates(
+    fn tell_each(
         &mut self,
         from: Node,
         change: Change,
@@ -120,7 +120,7 @@ impl<D: Disk + Drop> World<D> {
     {
         let subs = self.wire.subs(change.table)?;
         let gates = gates_of(self.alloc, &subs)?;
-        self.tell_gates(from, change, &gates, lines)
+        self.tell_each(from, change, &gates, lines)
     }
 
     /// Gateways are told behind a packet of the wire, where it is the answer that a write is accepted.

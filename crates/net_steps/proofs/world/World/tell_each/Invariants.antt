@@ -3,7 +3,7 @@ use Rattle.wire_tables.specs.Wire.{PartPacket}
 use Rattle.gated_tables.specs.Net.{Sent, change_at}
 use Rattle.net_network.specs.Packets.{HasSent}
 use Rattle.net_steps.proofs.InTurn.{HandsOn}
-use Rattle.net_steps.proofs.world.World.tell_gates.Given as goal
+use Rattle.net_steps.proofs.world.World.tell_each.Given as goal
 
 abbrev pub invariant-loop-gate : goal.invariant-loop-gate
 invariant-loop-gate g l = record {

@@ -119,6 +119,11 @@ over_ticks numbers s e over = λ count ten.
     let k = ticks_of numbers s in
     subst (λ (l : List Sent). most_bytes < net_bytes l) (sym k.sent) (over_more s.net.sent k.more (over count ten))
 
+pub over_weaker : {T : Type 0} (r : Result T WorldFault) (xs ys : List Sent)
+    → ((e : WorldFault) → IsOverFault xs e → IsOverFault ys e) → IfErr r (IsOverFault xs) → IfErr r (IsOverFault ys)
+over_weaker (Ok x) xs ys f k = tt
+over_weaker (Err e) xs ys f k = f e k
+
 -- ---- a gateway that is up
 
 module _ {D : Type 0} (state : D → DiskState) (n : Net) (s : NetStep) (lines : List TextLine) (old : World D)
@@ -209,6 +214,39 @@ module _ {D : Type 0} (state : D → DiskState) (n : Net) (s : NetStep) (lines :
           (sym (same ∙ ap (λ (net : Network). record old { gates = it; network = net }) by)) ticking_behind)
 
 -- ---- from the first gateway to the last
+
+-- what the ticks so far have told, and those that are left
+pub record TicksOn {D : Type 0} (state : D → DiskState) (n : Net) (s : NetStep) (all rest : List ℕ)
+    (lines : List TextLine) (world : World D) : Type 0 where
+  pub t : NetStep
+  pub ticking : IsTicking state n t lines world
+  pub goes : gates_tick rest t ≡ gates_tick all s
+
+pub tick_next : {D : Type 0} (state : D → DiskState) (n : Net) (s : NetStep) (all rest more : List ℕ) (number : ℕ)
+    → rest ≡ number ∷ more → (lines after : List TextLine) (world new : World D)
+    → (k : TicksOn state n s all rest lines world)
+    → IsTicking state n (gate_ticks number (gate_at k.t.net number) k.t) after new → TicksOn state n s all more after new
+tick_next state n s all rest more number is lines after world new k next = record {
+  t = gate_ticks number (gate_at k.t.net number) k.t;
+  ticking = next;
+  goes = sym (ap (λ (l : List ℕ). gates_tick l k.t) is) ∙ k.goes;
+}
+
+pub tick_last : {D : Type 0} (state : D → DiskState) (n : Net) (s : NetStep) (all rest : List ℕ) → rest ≡ []
+    → (lines : List TextLine) (world : World D) → TicksOn state n s all rest lines world
+    → IsTicking state n (gates_tick all s) lines world
+tick_last state n s all rest is lines world k =
+    subst (λ (t : NetStep). IsTicking state n t lines world) (sym (ap (λ (l : List ℕ). gates_tick l k.t) is) ∙ k.goes)
+    k.ticking
+
+pub tick_ends : {D : Type 0} (state : D → DiskState) (n : Net) (s : NetStep) (all rest more : List ℕ) (number : ℕ)
+    → rest ≡ number ∷ more → (lines : List TextLine) (world : World D)
+    → (k : TicksOn state n s all rest lines world) (e : WorldFault)
+    → IsOverFault (gate_ticks number (gate_at k.t.net number) k.t).net.sent e
+    → IsOverFault (gates_tick all s).net.sent e
+tick_ends state n s all rest more number is lines world k e over =
+    subst (λ (t : NetStep). IsOverFault t.net.sent e) (sym (ap (λ (l : List ℕ). gates_tick l k.t) is) ∙ k.goes)
+    (over_ticks more (gate_ticks number (gate_at k.t.net number) k.t) e over)
 
 pub first_ticking : {D : Type 0} (state : D → DiskState) (n : Net) (lines : List TextLine) (old : World D)
     → Holds state n old → map line_of lines ≡ AnswerLine facts.Done ∷ [] → IsTicking state n (still n facts.Done) lines old

@@ -235,9 +235,13 @@ sends_by n other = []
 abbrev pub gates_of : List (ℕ × Terms) → List ℕ
 gates_of subs = fold (λ (gates : List ℕ) (e : ℕ × Terms). insert_key nat_cmp gates e.1.gate) [] subs
 
-abbrev pub gates_for : Option Hosted → List ℕ
-gates_for None = []
-gates_for (Some hosted) = gates_of hosted.store.disk.subs
+abbrev pub gates_in : Option Hosted → List ℕ
+gates_in None = []
+gates_in (Some hosted) = gates_of hosted.store.disk.subs
+
+-- of a table whose Store is up
+abbrev pub gates_for : World → ℕ → List ℕ
+gates_for w table = if is_down w (nodes.Store (owner_of w table)) then [] else gates_in (hosted_at w table)
 
 abbrev pub change_at : Node → ℕ → ℕ → ℕ → Sent
 change_at from table version number = record {
@@ -246,10 +250,9 @@ change_at from table version number = record {
   message = messages.TableVersionUpdateNotification (record { gate = number; table = table; version = version });
 }
 
--- behind the answer that a write is accepted, its Store tells each of these gateways of the version, where it is up
+-- behind the answer that a write is accepted, each of these gateways is told of the version
 abbrev pub changes_for : World → Node → Response → Outcome → List Sent
-changes_for w from r (calls.Accepted version) = if is_down w from then []
-    else map (change_at from r.table version) (gates_for (hosted_at w r.table))
+changes_for w from r (calls.Accepted version) = map (change_at from r.table version) (gates_for w r.table)
 changes_for w from r other = []
 
 abbrev pub changes_by : World → Node → Part → List Sent

@@ -1,11 +1,14 @@
 -- What a read of a node's disks promises.
-use Rattle.std.specs.Prelude.{◌≡◌, ◌<◌, ℕ, List, Option, None, Some}
+use Rattle.std.specs.Prelude.{◌≡◌, ◌<◌, ℕ, List, [], Option, None, Some, if◌then◌else◌}
 use Rattle.disk_trait.specs.Calls.{DiskState}
+use Rattle.stab_base.specs.declared.node.Node.TheVariants as nodes
+use Rattle.row_store.specs.declared.stored.Sub.{Sub}
 use Rattle.step_tables.specs.Facts as facts
 use Rattle.step_tables.specs.Store.{current_of}
+use Rattle.store_host.specs.Calls.{subs_at}
 use Rattle.store_node.specs.Calls.{IsRowAt}
 use Rattle.store_node.specs.declared.showing.WholeRow.{WholeRow}
-use Rattle.world_tables.specs.World.{Moved, Hosted, answering, failing}
+use Rattle.world_tables.specs.World.{Moved, Hosted, answering, failing, hosted_at, is_down, owner_of}
 use Rattle.world_tables.specs.World as moves
 use Rattle.node_steps.specs.declared.told.Read.{Read}
 use Rattle.node_steps.specs.declared.told.Read.TheVariants as reads
@@ -42,3 +45,7 @@ TellsFall P (reads.Fallen told) = P told
 abbrev pub IsRowIn : Option Hosted → List ℕ → Option WholeRow → Type 0
 IsRowIn None row found = ⊥
 IsRowIn (Some hosted) row found = IsRowAt hosted.store.disk.items row (current_of hosted.store.disk.items row) found
+
+-- the subscriptions to a table whose Store is up
+abbrev pub subs_up : moves.World → ℕ → List Sub
+subs_up w table = if is_down w (nodes.Store (owner_of w table)) then [] else subs_at (hosted_at w table)

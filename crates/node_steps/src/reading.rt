@@ -8,7 +8,7 @@ ghost use Rattle.world_tables.specs.World.{World as AWorld, hosted_at, client_at
 ghost use Rattle.world_tables.specs.World.{owner_of, client_tasks, busy_live, is_at_work};
 ghost use Rattle.world_tables.specs.World.{is_cut, is_down, Hosted as AHosted};
 ghost use Rattle.world_tables.specs.Ready.{is_table_ready, is_client_ready, is_idle_table};
-ghost use Rattle.store_host.specs.Calls.{busy_version, state_at};
+ghost use Rattle.store_host.specs.Calls.{busy_version, state_at, subs_at};
 ghost use Rattle.store_host.specs.Holds.{AreLeft, is_up_for, is_up_there, owner_at};
 ghost use Rattle.journal_host.specs.Calls.{held_by, has_table};
 ghost use Rattle.journal_host.specs.Holds.{IsPlanAt};
@@ -16,7 +16,7 @@ ghost use Rattle.journal_host.specs.Moves.{has_work};
 ghost use Rattle.node_steps.specs.declared.fault.WorldFault.TheVariants.{Memory};
 ghost use Rattle.node_steps.specs.Calls.{HasTold, HasToldClients};
 ghost use Rattle.node_steps.specs.Holds.{Holds};
-ghost use Rattle.node_steps.specs.Reads.{HasRead, IsRowIn, TellsFall};
+ghost use Rattle.node_steps.specs.Reads.{HasRead, IsRowIn, TellsFall, subs_up};
 ghost use Rattle.node_steps.specs.Steps.{HavePlansBelow};
 
 use crate::fault::WorldFault;
@@ -24,9 +24,9 @@ use crate::told::Read;
 use crate::world::World;
 use client_node::{CallFault, RowHeld};
 use disk_trait::Disk;
-use row_value::{ClientNo, RowId, Schema, TableNo, Version};
+use row_value::{ClientNo, RowId, Schema, Sequence, TableNo, Version};
 use stab_base::{Node, StoreNo};
-use store_node::{NodeFault, WholeRow};
+use store_node::{NodeFault, Subs, WholeRow};
 use table_model::{Answer, History, Refusal, TableState};
 
 impl<D: Disk + Drop> World<D> {
@@ -123,6 +123,32 @@ impl<D: Disk + Drop> World<D> {
         ensures { (w : AWorld) → Holds D.state w self.now → result ≡ busy_version (hosted_at w table) }
     {
         self.store.busy_version(table)
+    }
+
+    /// The subscriptions to a table, by rising client; none where its Store is down.
+    pub fn subs(&self, table: TableNo) -> Result<Subs, WorldFault>
+        requires held { (w : AWorld) × Holds D.state w self.now }
+        ensures subs { (w : AWorld) → Holds D.state w self.now → IfOk result (λ subs. subs ≡ subs_up w table) }
+        ensures memory { IfErr result (λ e. e ≡ Memory) }
+    {
+        if self.is_down(Node::Store(self.owner(table))) {
+            return Ok(Sequence::new(self.alloc));
+        }
+        self.subs_there(table)
+    }
+
+    // Where its Store is up.
+    fn subs_there(&self, table: TableNo) -> Result<Subs, WorldFault>
+        requires held { (w : AWorld) × Holds D.state w self.now }
+        requires up { is_up_for self.now.store table ≡ true }
+        ensures subs { (w : AWorld) → Holds D.state w self.now
+            → IfOk result (λ subs. subs ≡ subs_at (hosted_at w table)) }
+        ensures memory { IfErr result (λ e. e ≡ Memory) }
+    {
+        match self.store.subs(table) {
+            Ok(subs) => Ok(subs),
+            Err(_) => Err(WorldFault::Memory),
+        }
     }
 
     /// The schema of a declared table.

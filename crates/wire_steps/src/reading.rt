@@ -14,6 +14,7 @@ ghost use Rattle.part_network.specs.Packets.{frame_length, read_of, part_in, par
 ghost use Rattle.node_steps.specs.declared.fault.WorldFault.TheVariants.{Memory};
 ghost use Rattle.node_steps.specs.Holds as nodes;
 ghost use Rattle.node_steps.specs.Holds.{AreOut};
+ghost use Rattle.node_steps.specs.Reads.{subs_up};
 ghost use Rattle.wire_steps.specs.Holds.{Holds};
 ghost use Rattle.wire_steps.specs.Opening.{HasRead};
 ghost use Rattle.wire_steps.specs.Reached.{IsReached};
@@ -25,6 +26,7 @@ use node_steps::{Lines, WorldFault};
 use row_value::Schema;
 use stab_base::{ClientNo, Node, StoreNo, TableNo};
 use std::alloc::AllocError;
+use store_node::Subs;
 use table_model::{History, Message, TableState};
 
 /// What a read of a client's disks comes to.
@@ -79,6 +81,15 @@ impl<D: Disk + Drop> World<D> {
         ensures { (v : Wire) → Holds D.state v self.now → result ≡ state_at (hosted_at v.world table) }
     {
         self.nodes.table_state(table)
+    }
+
+    /// The subscriptions to a table, by rising client; none where its Store is down.
+    pub fn subs(&self, table: TableNo) -> Result<Subs, WorldFault>
+        requires { (v : Wire) × Holds D.state v self.now }
+        ensures subs { (v : Wire) → Holds D.state v self.now → IfOk result (λ subs. subs ≡ subs_up v.world table) }
+        ensures memory { IfErr result (λ e. e ≡ Memory) }
+    {
+        self.nodes.subs(table)
     }
 
     /// Whether a client is there.

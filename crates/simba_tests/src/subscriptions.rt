@@ -581,9 +581,13 @@ const CASES: [(&str, &str); 13] = [
 #[test]
 fn what_becomes_of_a_subscription(rt: HostRuntime) -> Result<(), Fail> {
     for (script, output) in CASES {
-        let script = &[DECLARED, SESSION, SUBSCRIBING, script];
-        let output = &[REGISTERED, SUBSCRIBED, output];
-        check(&rt, rt.alloc(), script, 0, output)?;
+        check(
+            &rt,
+            rt.alloc(),
+            &[DECLARED, SESSION, SUBSCRIBING, script],
+            0,
+            &[REGISTERED, SUBSCRIBED, output],
+        )?;
     }
     Ok(())
 }

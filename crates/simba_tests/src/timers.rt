@@ -251,9 +251,13 @@ const CASES: [(&str, &str); 6] = [
 #[test]
 fn a_change_is_told_by_a_timer(rt: HostRuntime) -> Result<(), Fail> {
     for (script, output) in CASES {
-        let script = &[DECLARED, SESSION, SUBSCRIBING, CHANGING, script];
-        let output = &[REGISTERED, SUBSCRIBED, CHANGED, output];
-        check(&rt, rt.alloc(), script, 0, output)?;
+        check(
+            &rt,
+            rt.alloc(),
+            &[DECLARED, SESSION, SUBSCRIBING, CHANGING, script],
+            0,
+            &[REGISTERED, SUBSCRIBED, CHANGED, output],
+        )?;
     }
     Ok(())
 }

@@ -16,8 +16,10 @@ hand_all-requires g c =
     let x = c.requires.here.2 in
     let w = s.net.wire.world in
     let r = up_there w.stores w.schemas s.net.gates c.args.self.now.gates c.args.gate x.held.gates c.requires.up in
-    record { short = tick_short g.D.Disk.state n s c.args.lines.now c.args.self.now x c.args.gate r.0 r.1 r.2 c.in_ok-sends.sends
-        (c.in_ok-sends.ensures.sent w.stores w.schemas s.net.gates r.0 r.1 x.held.gates r.2) }
+    record {
+      short = tick_short g.D.Disk.state n s c.args.lines.now c.args.self.now x c.args.gate r.0 r.1 r.2 c.in_ok-sends.sends
+          (c.in_ok-sends.ensures.sent w.stores w.schemas s.net.gates r.0 r.1 x.held.gates r.2);
+    }
 
 pub returns-in_err-sends-clause-over : goal.returns-in_err-sends-clause-over
 returns-in_err-sends-clause-over g c n s x =

@@ -1,5 +1,6 @@
 -- What each event with gateways carries of the wire.
-use Rattle.std.proofs.Common.{◌≡◌, ◌≤◌, inl, inr, ⊎_elim, ℕ, ◌+◌, arith, Bool, true, false, List, [], ◌∷◌, length, Option, Some, None, refl, sym, ◌∙◌, ap, subst, append-nil, true≢false}
+use Rattle.std.proofs.Common.{◌≡◌, ◌≤◌, inl, inr, ⊎_elim, ℕ, ◌+◌, arith, Bool, true, false, List, [], ◌∷◌, length}
+use Rattle.std.proofs.Common.{Option, Some, None, refl, sym, ◌∙◌, ap, subst, append-nil, true≢false}
 use Rattle.std.specs.Prelude.{◌==◌, ◌&&◌, nat_le, map, slice_get, is_some, option_map, if◌then◌else◌}
 use Rattle.std.specs.Ordering.{nat_cmp}
 use Rattle.std.specs.Map.{lookup}
@@ -49,7 +50,8 @@ use Rattle.gated_tables.specs.Devices.{Device, part_client}
 use Rattle.gated_tables.specs.Net.{Sent, Net, NetStep, gate_at, device_at, has_none, still, refused, unless_down, is_node_down, sending, cutting, cut_by, with_device, restarted, asks_again}
 use Rattle.gated_tables.specs.Net.{Asker, carried_on, of_session, says_made, says_gone, answer_heard, is_linked, unless_busy, answer_from, answering, asked_by, is_schema, creates, drops, is_client, terms_in, saves, to_create, to_drop, to_save, turned_away}
 use Rattle.gated_tables.specs.Net.{part_taken, is_shut, way_to, asks_for, unless_away, asks_create, asks_drop, to_ask, is_open, to_give, if_read, to_end}
-use Rattle.gated_tables.specs.Net.{tables_told, asks_each, changes_come, changes_told, notified, token_with, asks_gate, to_subscribe, subscribing, unsubscribing, by_net}
+use Rattle.gated_tables.specs.Net.{tables_told, asks_each, changes_come, changes_told, notified, token_with, asks_gate}
+use Rattle.gated_tables.specs.Net.{to_subscribe, subscribing, unsubscribing, by_net}
 use Rattle.gated_tables.specs.Net.{client_taken, asks_session, answered, if_idle, agenda_in, answer_taken, to_client, restoring, busy_with, restored, to_store, directory_of, with_running}
 use Rattle.gated_tables.specs.Net.{sent_of, gate_done, to_gate}
 use Rattle.gated_tables.specs.Net.{delivered_to, relinked, linked, gate_crashed, gate_started, client_started, net_step}
@@ -57,8 +59,11 @@ use Rattle.gated_tables.specs.Net as net
 use Rattle.gated_laws.specs.Carried.{IsNoGate, IsEventCarried, IsLoneAnswer, IsDoneAnswer, IsAskingRefusal, IsAskingAnswer, AreAnswered, AreLone, IsLone}
 use Rattle.gated_laws.proofs.HandedOn.{way_of, AreHandedOn, handed_on}
 use Rattle.gated_laws.proofs.NetLines.{to_of, wires_to}
-use Rattle.gated_laws.proofs.KeptWires.{ComesFrom, IsPartAddressed, parts_go, KeepsWire, step_keeps, IsLinked, none_linked, cut_linked, links_besides}
-use Rattle.gated_laws.proofs.KeptNets.{IsGate, IsSentAs, AreParts, IsKeptNet, no_part, none_asked, IsLinkedNet, gates_linked, cutting_net, cut_net, device_net, Carries, then_carries, carries_more, shares_asked, shares, stays_alone}
+use Rattle.gated_laws.proofs.KeptWires.{ComesFrom, IsPartAddressed, parts_go, KeepsWire, step_keeps, IsLinked}
+use Rattle.gated_laws.proofs.KeptWires.{none_linked, cut_linked, links_besides}
+use Rattle.gated_laws.proofs.KeptNets.{IsGate, IsSentAs, AreParts, IsKeptNet, no_part, none_asked, IsLinkedNet}
+use Rattle.gated_laws.proofs.KeptNets.{gates_linked, cutting_net, cut_net, device_net, Carries, then_carries}
+use Rattle.gated_laws.proofs.KeptNets.{carries_more, shares_asked, shares, stays_alone}
 use Rattle.gated_laws.proofs.KeptNets.{answers_alone, unless_node_down, itself}
 use Rattle.gated_laws.proofs.KeptNets.{sends_alone}
 use Rattle.gated_laws.proofs.Telling.{lone_done, tick_carries, tables_few, asks_devices, IsAsking, asks_carry}
@@ -319,20 +324,31 @@ module _ (n : Net) (k : IsKeptNet n) where
           go false = answers_alone n k deliver (facts.Refuses facts.Offline) (alone (facts.Refuses facts.Offline) tt)
 
       -- it is told of changes, and asks for the next ones
-      told_carries : (c bits : ℕ) → p.to ≡ nodes.Client c → is_client_down (client_at n.wire.world c) ≡ false → (o : Option Device) → device_at n c ≡ o
+      told_carries : (c bits : ℕ) → p.to ≡ nodes.Client c → is_client_down (client_at n.wire.world c) ≡ false
+          → (o : Option Device) → device_at n c ≡ o
           → Carries 1 n deliver (changes_told n c bits lucks o)
       told_carries c bits here up None none =
-          carries_more n deliver _ (asks_carry n number c (to_there number p at ∙ ap (λ (x : Node). Some x) here) (tables_told bits) lucks 0 (changes_come n c bits) first (let few = tables_few bits in omega (arith, few)))
+          carries_more n deliver _ (asks_carry n number c (to_there number p at ∙ ap (λ (x : Node). Some x) here)
+          (tables_told bits) lucks 0 (changes_come n c bits) first (let few = tables_few bits in omega (arith, few)))
         where
           first : IsAsking n 0 (changes_come n c bits)
           first = record {
-            telling = record { answer = refl; counted = refl; sent = sym (append-nil n.sent); silent = (((refl, tt), (tt, tt)), tt) };
+            telling =
+                record {
+                  answer = refl;
+                  counted = refl;
+                  sent = sym
+                      (append-nil n.sent);
+                  silent = (((refl, tt), (tt, tt)), tt);
+                };
             besides = links_besides n.wire n.wire (none_linked n.wire k.wire);
             few = omega arith;
             kept = k;
           }
       told_carries c bits here up (Some d) some = then_carries n deliver x carries_x (cut_by c d x.net)
-          (cut_net x.net carries_x.kept c d (carries_x.kept.devices c d (ap (λ (ds : List (ℕ × Device)). lookup (is_at (nat_cmp c)) ds) (asks_devices c (tables_told bits) lucks (changes_come m c bits)) ∙ some)))
+          (cut_net x.net carries_x.kept c d
+          (carries_x.kept.devices c d (ap (λ (ds : List (ℕ × Device)). lookup (is_at (nat_cmp c)) ds)
+          (asks_devices c (tables_told bits) lucks (changes_come m c bits)) ∙ some)))
         where
           m : Net
           m = record n { wire = cutting c d.linked n.wire }
@@ -342,7 +358,14 @@ module _ (n : Net) (k : IsKeptNet n) where
 
           first : IsAsking n 1 (changes_come m c bits)
           first = record {
-            telling = record { answer = refl; counted = refl; sent = sym (append-nil n.sent); silent = (((refl, tt), (tt, tt)), tt) };
+            telling =
+                record {
+                  answer = refl;
+                  counted = refl;
+                  sent = sym
+                      (append-nil n.sent);
+                  silent = (((refl, tt), (tt, tt)), tt);
+                };
             besides = links_besides n.wire m.wire l.linked;
             few = l.linked.few;
             kept = l.kept;
@@ -352,17 +375,25 @@ module _ (n : Net) (k : IsKeptNet n) where
           x = asks_each c (tables_told bits) lucks (changes_come m c bits)
 
           carries_x : Carries 0 n deliver x
-          carries_x = asks_carry n number c (to_there number p at ∙ ap (λ (y : Node). Some y) here) (tables_told bits) lucks 1 (changes_come m c bits) first (let few = tables_few bits in omega (arith, few))
+          carries_x =
+              asks_carry n number c (to_there number p at ∙ ap (λ (y : Node). Some y) here) (tables_told bits) lucks 1
+              (changes_come m c bits) first (let few = tables_few bits in omega (arith, few))
 
-      notified_carries : (c bits : ℕ) → p.to ≡ nodes.Client c → is_client_down (client_at n.wire.world c) ≡ false → (o : Option Device) → device_at n c ≡ o
+      notified_carries : (c bits : ℕ) → p.to ≡ nodes.Client c → is_client_down (client_at n.wire.world c) ≡ false
+          → (o : Option Device) → device_at n c ≡ o
           → Carries 1 n deliver (notified n c bits lucks o)
       notified_carries c bits here up o is = go (is_linked n c o)
         where
-          go : (b : Bool) → Carries 1 n deliver (if b then if_idle n lucks (agenda_in (client_at n.wire.world c)) (changes_told n c bits lucks o) else refused n facts.Offline)
-          go true = idle_carries (agenda_in (client_at n.wire.world c)) (changes_told n c bits lucks o) (told_carries c bits here up o is)
+          go : (b : Bool) → Carries 1 n deliver
+              (if b then if_idle n lucks (agenda_in (client_at n.wire.world c))
+              (changes_told n c bits lucks o) else refused n facts.Offline)
+          go true =
+              idle_carries (agenda_in (client_at n.wire.world c)) (changes_told n c bits lucks o)
+              (told_carries c bits here up o is)
           go false = answers_alone n k deliver (facts.Refuses facts.Offline) (alone (facts.Refuses facts.Offline) tt)
 
-      message_to_client : (c : ℕ) → p.to ≡ nodes.Client c → is_client_down (client_at n.wire.world c) ≡ false → (m : Message) → Carries 1 n deliver (to_client n c (record p { message = m }) lucks None)
+      message_to_client : (c : ℕ) → p.to ≡ nodes.Client c → is_client_down (client_at n.wire.world c) ≡ false
+          → (m : Message) → Carries 1 n deliver (to_client n c (record p { message = m }) lucks None)
       message_to_client c here up (kinds.OperationResponse m) = answer_carries c here m (device_at n c) refl
       message_to_client c here up (kinds.Notify m) = notified_carries c m.bitmap here up (device_at n c) refl
       message_to_client c here up other = done_alone
@@ -552,13 +583,17 @@ module _ (n : Net) (k : IsKeptNet n) where
     refusal_carries refusal is = answers_alone n k event (facts.Refuses refusal) (lone _ (asks_alone (facts.Refuses refusal) is))
 
     no_part_in : (one : Sent) → part_of one.message ≡ None → AreParts n.wire (one ∷ [])
-    no_part_in one none q b part is = no_part (part_of q.message) part (⊎_elim (λ e. ap (λ (x : Sent). part_of x.message) (sym e) ∙ none) (λ more. absurd (among_none q more)) (among_cons one [] q b)) is
+    no_part_in one none q b part is =
+        no_part (part_of q.message) part (⊎_elim (λ e. ap (λ (x : Sent). part_of x.message) (sym e) ∙ none)
+        (λ more. absurd (among_none q more)) (among_cons one [] q b)) is
 
     sends_one : (one : Sent) → part_of one.message ≡ None → Carries 1 n event (sending n (one ∷ []))
-    sends_one one none = sends_alone n k event n (one ∷ []) (λ ls are. lone ls (asking_done ls are)) (itself n k) (no_part_in one none)
+    sends_one one none =
+        sends_alone n k event n (one ∷ []) (λ ls are. lone ls (asking_done ls are)) (itself n k) (no_part_in one none)
 
     asks_carries : (c table : ℕ) (o : Option Device) (m : Message) → part_of m ≡ None → Carries 1 n event (asks_for n c table o m)
-    asks_carries c table o m none = sends_one (record { from = nodes.Client c; to = way_to n.wire.world table o; message = m }) none
+    asks_carries c table o m none =
+        sends_one (record { from = nodes.Client c; to = way_to n.wire.world table o; message = m }) none
 
     away_carries : (c : ℕ) (lucks : Lucks) (node : Client) (x : NetStep) → Carries 1 n event x → Carries 1 n event (unless_away n c lucks node x)
     away_carries c lucks node x carries_x = go node.agenda
@@ -633,17 +668,23 @@ module _ (n : Net) (k : IsKeptNet n) where
       same : (lines : List Line) → AreAnswered IsAskingAnswer lines → IsLone event lines
       same lines are = are
 
-      asks_of : (c : ℕ) (node : Client) (m : Message) → part_of m ≡ None → (o : Option Device) → Carries 1 n event (asks_gate n c lucks node m o)
+      asks_of : (c : ℕ) (node : Client) (m : Message) → part_of m ≡ None → (o : Option Device)
+          → Carries 1 n event (asks_gate n c lucks node m o)
       asks_of c node m none None = refusal_carries event same (facts.Unregistered c) tt
-      asks_of c node m none (Some d) = away_carries event same c lucks node _ (sends_one event same (record { from = nodes.Client c; to = nodes.Gate d.gate; message = m }) none)
+      asks_of c node m none (Some d) =
+          away_carries event same c lucks node _
+          (sends_one event same (record { from = nodes.Client c; to = nodes.Gate d.gate; message = m }) none)
 
-      subscribes : (c : ℕ) (message : ℕ → Message) → ((token : ℕ) → part_of (message token) ≡ None) → (o : Option Client) → Carries 1 n event (to_subscribe n c lucks message o)
+      subscribes : (c : ℕ) (message : ℕ → Message) → ((token : ℕ) → part_of (message token) ≡ None)
+          → (o : Option Client) → Carries 1 n event (to_subscribe n c lucks message o)
       subscribes c message none None = refusal_carries event same facts.NoTable tt
       subscribes c message none (Some node) =
-          let token : ℕ = token_with (device_at n c) in up_carries event same c _ (asks_of c node (message token) (none token) (device_at n c))
+          let token : ℕ = token_with (device_at n c) in
+          up_carries event same c _ (asks_of c node (message token) (none token) (device_at n c))
 
       go : (x : NetEvent) → Carries 1 n event (by_net n lucks x)
-      go (nets.Subscribe c table period tolerance) = subscribes c (subscribing c table period tolerance) (λ token. refl) (client_at n.wire.world c)
+      go (nets.Subscribe c table period tolerance) =
+          subscribes c (subscribing c table period tolerance) (λ token. refl) (client_at n.wire.world c)
       go (nets.Unsubscribe c table) = subscribes c (unsubscribing c table) (λ token. refl) (client_at n.wire.world c)
       go (nets.WriteSync c table period tolerance) = still_carries event same
       go nets.Tick = carries_more n event _ (tick_carries n k event asking_done)

@@ -33,9 +33,11 @@ use Rattle.gated_laws.specs.Carried.{IsDoneAnswer, AreAnswered, IsLone, IsUntold
 use Rattle.gated_laws.proofs.Addressed.{ClientsStay}
 use Rattle.gated_laws.proofs.Remembered.{shaped}
 use Rattle.gated_laws.proofs.HandedOn.{part_back, part_stamped}
-use Rattle.gated_laws.proofs.NetLines.{to_of, wires_to, packets_by, sent_facts, all_sent, lines_carried, lines_untold, carried_sends, wire_sends, sending_lines, sending_sends}
+use Rattle.gated_laws.proofs.NetLines.{to_of, wires_to, packets_by, sent_facts, all_sent, lines_carried, lines_untold}
+use Rattle.gated_laws.proofs.NetLines.{carried_sends, wire_sends, sending_lines, sending_sends}
 use Rattle.gated_laws.proofs.NetLines as lines
-use Rattle.gated_laws.proofs.KeptWires.{IsKeptWire, plain_step, IsBesides, IsLinked, none_linked, then_linked, cut_linked, links_besides}
+use Rattle.gated_laws.proofs.KeptWires.{IsKeptWire, plain_step, IsBesides, IsLinked, none_linked, then_linked}
+use Rattle.gated_laws.proofs.KeptWires.{cut_linked, links_besides}
 
 abbrev pub IsGate : Node → Type 0
 IsGate (nodes.Gate number) = Unit {0}
@@ -123,11 +125,14 @@ module _ (n : Net) where
     none_changed from (Responds r) p a = by_outcome r.outcome a
       where
         by_outcome : (outcome : Outcome) → Among (changes_for w from r outcome) p → part_of p.message ≡ None
-        by_outcome (Accepted version) b = let x = among_mapped (change_at from r.table version) (gates_for w r.table) p b in ap (λ (s : Sent). part_of s.message) (sym x.2)
+        by_outcome (Accepted version) b =
+            let x = among_mapped (change_at from r.table version) (gates_for w r.table) p b in
+            ap (λ (s : Sent). part_of s.message) (sym x.2)
         by_outcome other b = absurd (among_none p b)
     none_changed from other p a = absurd (among_none p a)
 
-    passed_parts : (packets : List PartPacket) (p : Sent) → Among (flat_map (passed_with n w) packets) p → (part : Part) → part_of p.message ≡ Some part
+    passed_parts : (packets : List PartPacket) (p : Sent) → Among (flat_map (passed_with n w) packets) p
+        → (part : Part) → part_of p.message ≡ Some part
         → (packet : PartPacket) × Among packets packet × (packet.part ≡ part) × ((p.to ≡ packet.to) ⊎ IsGate p.to)
     passed_parts packets p a part is =
         let r = flat_member (passed_with n w) packets p a in
@@ -138,18 +143,23 @@ module _ (n : Net) where
         (r.0, r.1, (let both : Some r.0.part ≡ Some part = sym routed_is.0 ∙ is in cc), routed_is.1))
         (λ more. no_part (part_of p.message) part (none_changed r.0.from r.0.part p more) is) either
 
-    out_parts : (out : PartOutbox) (o : NetOutbox) → Among (outs_by n w out) o → (p : Sent) → Among o.sent p → (part : Part) → part_of p.message ≡ Some part
+    out_parts : (out : PartOutbox) (o : NetOutbox) → Among (outs_by n w out) o → (p : Sent) → Among o.sent p
+        → (part : Part) → part_of p.message ≡ Some part
         → (packet : PartPacket) × Among out.packets packet × (packet.part ≡ part) × ((p.to ≡ packet.to) ⊎ IsGate p.to)
     out_parts out o stands p a part is = ⊎_elim
         (λ b.
         let fact = among_mapped (told_by n) out.facts o b in
-        no_part (part_of p.message) part (none_by fact.0 p (subst (λ (x : NetOutbox). Among x.sent p) (sym fact.2) a)) is)
-        (λ b. ⊎_elim (λ e. passed_parts out.packets p (subst (λ (x : NetOutbox). Among x.sent p) (sym e) a) part is) (λ more. absurd (among_none o more))
+        no_part (part_of p.message) part (none_by fact.0 p
+        (subst (λ (x : NetOutbox). Among x.sent p) (sym fact.2) a)) is)
+        (λ b. ⊎_elim (λ e. passed_parts out.packets p (subst (λ (x : NetOutbox). Among x.sent p) (sym e) a) part is)
+        (λ more. absurd (among_none o more))
         (among_cons (passed_on n w out.packets) [] o b))
         (among_either (map (told_by n) out.facts) (passed_on n w out.packets ∷ []) o stands)
 
-    outs_parts : (outs : List PartOutbox) (p : Sent) → Among (lines.sent_by (outs_of n w outs)) p → (part : Part) → part_of p.message ≡ Some part
-        → (packet : PartPacket) × Among (packets_by outs) packet × (packet.part ≡ part) × ((p.to ≡ packet.to) ⊎ IsGate p.to)
+    outs_parts : (outs : List PartOutbox) (p : Sent) → Among (lines.sent_by (outs_of n w outs)) p → (part : Part)
+        → part_of p.message ≡ Some part
+        → (packet : PartPacket) × Among (packets_by outs) packet × (packet.part ≡ part)
+        × ((p.to ≡ packet.to) ⊎ IsGate p.to)
     outs_parts outs p a part is =
         let o = flat_member (λ (out : NetOutbox). out.sent) (outs_of n w outs) p a in
         let r = flat_member (outs_by n w) outs o.0 o.1 in
@@ -167,7 +177,8 @@ pub gates_linked : (n : Net) (gates : _) → IsKeptNet n → IsLinkedNet n (reco
 gates_linked n gates k = record { linked = none_linked n.wire k.wire; kept = record { wire = k.wire; devices = k.devices; sent = k.sent }; sent = refl }
 
 -- a client that is up is cut off, or not
-pub cutting_net : (n : Net) → IsKeptNet n → (c : ℕ) (up : Bool) → is_some (client_at n.wire.world c) ≡ true → is_client_down (client_at n.wire.world c) ≡ false
+pub cutting_net : (n : Net) → IsKeptNet n → (c : ℕ) (up : Bool) → is_some (client_at n.wire.world c) ≡ true
+    → is_client_down (client_at n.wire.world c) ≡ false
     → IsLinkedNet n (record n { wire = cutting c up n.wire })
 cutting_net n k c up there is_up =
     let l : IsLinked n.wire (cutting c up n.wire) = cut_linked n.wire k.wire c up there is_up in

@@ -1,5 +1,7 @@
 -- What every wire keeps that built events lead to: what is in memory is of nodes that are up, and each part goes its way.
-use Rattle.std.proofs.Common.{◌≡◌, inl, inr, ⊎_elim, ℕ, Bool, true, false, List, [], ◌∷◌, ◌++◌, Option, Some, None, refl, sym, ◌∙◌, ap, subst, append-nil, append_assoc, true≢false, length, ◌≤◌, ◌+◌, arith, length-append}
+use Rattle.std.proofs.Common.{◌≡◌, inl, inr, ⊎_elim, ℕ, Bool, true, false, List, [], ◌∷◌, ◌++◌, Option, Some, None}
+use Rattle.std.proofs.Common.{refl, sym, ◌∙◌, ap, subst, append-nil, append_assoc, true≢false, length, ◌≤◌, ◌+◌, arith}
+use Rattle.std.proofs.Common.{length-append}
 use Rattle.std.specs.Prelude.{map, is_some}
 use Rattle.std.specs.List.{AllByRecursion}
 use Rattle.std.proofs.lemmas.List.{map-append}
@@ -230,7 +232,8 @@ besides_join (x ∷ xs) ys a b = (a.0, besides_join xs ys a.1 b)
 
 pub sent_join : (xs ys : List Turn) → sent_among (xs ++ ys) ≡ sent_among xs ++ sent_among ys
 sent_join [] ys = refl
-sent_join (x ∷ xs) ys = ap (λ (ns : List Node). sent_in x.lines ++ ns) (sent_join xs ys) ∙ sym (append_assoc (sent_in x.lines) (sent_among xs) (sent_among ys))
+sent_join (x ∷ xs) ys = ap (λ (ns : List Node). sent_in x.lines ++ ns) (sent_join xs ys)
+    ∙ sym (append_assoc (sent_in x.lines) (sent_among xs) (sent_among ys))
 
 -- links that go up or down, and asks
 pub record IsBesides (v later : Wire) : Type 0 where
@@ -249,7 +252,8 @@ then_besides u v w a b = record {
   packets = b.packets
       ∙ (ap (λ (ns : List Node). ns ++ sent_among (turns_from v b.run)) a.packets
       ∙ (append_assoc (wires_to u.packets) (sent_among (turns_from u a.run)) (sent_among (turns_from v b.run))
-      ∙ ap (λ (ns : List Node). wires_to u.packets ++ ns) (sym (ap sent_among joined ∙ sent_join (turns_from u a.run) (turns_from v b.run)))));
+      ∙ ap (λ (ns : List Node). wires_to u.packets ++ ns)
+      (sym (ap sent_among joined ∙ sent_join (turns_from u a.run) (turns_from v b.run)))));
 }
   where
     joined : turns_from u (a.run ++ b.run) ≡ turns_from u a.run ++ turns_from v b.run
@@ -271,7 +275,19 @@ pub record IsLinked (v later : Wire) : Type 0 where
   pub clients : ClientsStay v.world later.world
 
 abbrev pub none_linked : (v : Wire) → IsKeptWire v → IsLinked v v
-none_linked v k = record { run = []; few = omega arith; built = tt; is = refl; turns = tt; silent = refl; packets = refl; whole = refl; kept = k; clients = λ c there. there }
+none_linked v k =
+    record {
+      run = [];
+      few = omega arith;
+      built = tt;
+      is = refl;
+      turns = tt;
+      silent = refl;
+      packets = refl;
+      whole = refl;
+      kept = k;
+      clients = λ c there. there;
+    }
 
 pub then_linked : (u v w : Wire) (a : IsLinked u v) → length a.run ≤ 0 → IsLinked v w → IsLinked u w
 then_linked u v w a none b = record {
@@ -279,7 +295,8 @@ then_linked u v w a none b = record {
   few = let longer = length-append a.run b.run in let few = b.few in omega (arith, longer, none, few);
   built = built_join a.run b.run a.built b.built;
   is = from_join u a.run b.run ∙ (ap (λ (x : Wire). wire_from x b.run) a.is ∙ b.is);
-  turns = subst AreBeside (sym (turns_join u a.run b.run)) (besides_join (turns_from u a.run) (turns_from (wire_from u a.run) b.run) a.turns
+  turns = subst AreBeside (sym (turns_join u a.run b.run))
+      (besides_join (turns_from u a.run) (turns_from (wire_from u a.run) b.run) a.turns
       (subst (λ (x : Wire). AreBeside (turns_from x b.run)) (sym a.is) b.turns));
   silent = ap sent_among (turns_join u a.run b.run)
       ∙ (sent_join (turns_from u a.run) (turns_from (wire_from u a.run) b.run)
@@ -321,16 +338,20 @@ cut_linked v k c up there is_up = go (client_at v.world c) refl
         alone = link_alone v c up no_lucks node k.remembered at is_up
 
 -- as turns of the wire
-pub linked_sends : (v later : Wire) (l : IsLinked v later) → wires_to later.packets ≡ wires_to v.packets ++ sent_among (turns_from v l.run)
-linked_sends v later l = ap wires_to l.packets ∙ (sym (append-nil (wires_to v.packets)) ∙ ap (λ (ns : List Node). wires_to v.packets ++ ns) (sym l.silent))
+pub linked_sends : (v later : Wire) (l : IsLinked v later)
+    → wires_to later.packets ≡ wires_to v.packets ++ sent_among (turns_from v l.run)
+linked_sends v later l = ap wires_to l.packets
+    ∙ (sym (append-nil (wires_to v.packets)) ∙ ap (λ (ns : List Node). wires_to v.packets ++ ns) (sym l.silent))
 
 abbrev pub links_besides : (v later : Wire) → IsLinked v later → IsBesides v later
-links_besides v later l = record { run = l.run; built = l.built; is = l.is; turns = l.turns; packets = linked_sends v later l }
+links_besides v later l =
+    record { run = l.run; built = l.built; is = l.is; turns = l.turns; packets = linked_sends v later l }
 
 -- ---- asks
 
 -- one that doesn't fail
-pub ask_besides : (v : Wire) → IsKeptWire v → (c table : ℕ) (lucks : Lucks) (a : IsAskOf (wire_step v (events.Ask c table) lucks)) → IsAskAnswer a.answer
+pub ask_besides : (v : Wire) → IsKeptWire v
+    → (c table : ℕ) (lucks : Lucks) (a : IsAskOf (wire_step v (events.Ask c table) lucks)) → IsAskAnswer a.answer
     → IsBesides v (wire_step v (events.Ask c table) lucks).wire
 ask_besides v k c table lucks a answered = record {
   run = record { event = events.Ask c table; lucks = lucks } ∷ [];
@@ -348,14 +369,17 @@ ask_besides v k c table lucks a answered = record {
   );
   packets = ap wires_to (shaped v k.remembered (events.Ask c table) lucks).packets
       ∙ (map-append (λ (p : PartPacket). p.to) v.packets (packets_by s.outs)
-      ∙ ap (λ (ns : List Node). wires_to v.packets ++ ns) (sym (append-nil (sent_in (lines_of v s)) ∙ wire_sends v s (plain_step v k (events.Ask c table) lucks))));
+      ∙ ap (λ (ns : List Node). wires_to v.packets ++ ns)
+      (sym (append-nil (sent_in (lines_of v s)) ∙ wire_sends v s (plain_step v k (events.Ask c table) lucks))));
 }
   where
     s : WireStep
     s = wire_step v (events.Ask c table) lucks
 
-pub one_more : (u v : Wire) (b : IsBesides u v) (k : IsKeptWire v) (c table : ℕ) (lucks : Lucks) (a : IsAskOf (wire_step v (events.Ask c table) lucks)) (is : IsAskAnswer a.answer)
-    → length (then_besides u v (wire_step v (events.Ask c table) lucks).wire b (ask_besides v k c table lucks a is)).run ≡ length b.run + 1
+pub one_more : (u v : Wire) (b : IsBesides u v) (k : IsKeptWire v) (c table : ℕ) (lucks : Lucks)
+    (a : IsAskOf (wire_step v (events.Ask c table) lucks)) (is : IsAskAnswer a.answer)
+    → length (then_besides u v (wire_step v (events.Ask c table) lucks).wire b
+    (ask_besides v k c table lucks a is)).run ≡ length b.run + 1
 unfolding then_besides ask_besides
 one_more u v b k c table lucks a is = length-append b.run (record { event = events.Ask c table; lucks = lucks } ∷ [])
 

@@ -12,7 +12,8 @@ use Rattle.world_tables.specs.World.{World}
 use Rattle.name_laws.proofs.Plain.{IsPlainFact, ArePlainFacts}
 use Rattle.wire_tables.specs.Wire.{PartPacket, PartOutbox, Wire, WireStep, part_name}
 use Rattle.wire_tables.specs.Wire as wires
-use Rattle.gated_tables.specs.Net.{Sent, Net, NetStep, NetOutbox, sent_lines, lines_from, lines_of, sending, told_by, told_of, passed_on, outs_of, carried_on}
+use Rattle.gated_tables.specs.Net.{Sent, Net, NetStep, NetOutbox, sent_lines, lines_from, lines_of, sending, told_by}
+use Rattle.gated_tables.specs.Net.{told_of, passed_on, outs_of, carried_on}
 use Rattle.gated_laws.specs.Carried.{is_own, without_own, AreLinesCarried}
 
 -- ---- where packets go
@@ -86,14 +87,16 @@ lines_told number (out ∷ outs) =
     ∙ (ap (λ (l : List Line). map FactLine out.facts ++ (map FactLine (sent_facts number out.sent) ++ l)) (lines_told later outs)
     ∙ (ap (λ (l : List Line). map FactLine out.facts ++ l) (sym (mapped (sent_facts number out.sent) (told later outs))) ∙ sym (mapped out.facts (sent_facts number out.sent ++ told later outs))))
 
-told_without : (number : ℕ) (outs : List NetOutbox) → without_own (told number outs) ≡ without_own (flat_map (λ (out : NetOutbox). out.facts) outs)
+told_without : (number : ℕ) (outs : List NetOutbox)
+    → without_own (told number outs) ≡ without_own (flat_map (λ (out : NetOutbox). out.facts) outs)
 unfolding told
 told_without number [] = refl
 told_without number (out ∷ outs) =
     let later : ℕ = number + length out.sent in
     let rest : List Fact = flat_map (λ (x : NetOutbox). x.facts) outs in
     without_join out.facts (sent_facts number out.sent ++ told later outs)
-    ∙ (ap (λ (l : List Fact). without_own out.facts ++ l) (without_all (sent_facts number out.sent) (told later outs) (all_sent number out.sent) ∙ told_without later outs)
+    ∙ (ap (λ (l : List Fact). without_own out.facts ++ l)
+    (without_all (sent_facts number out.sent) (told later outs) (all_sent number out.sent) ∙ told_without later outs)
     ∙ sym (without_join out.facts rest))
 
 -- ---- and packets
@@ -116,7 +119,8 @@ pub wire_told : ℕ → List PartOutbox → List Fact
 wire_told number [] = []
 wire_told number (out ∷ outs) = out.facts ++ (packet_facts number out.packets ++ wire_told (number + length out.packets) outs)
 
-pub wire_lines_told : (number : ℕ) (outs : List PartOutbox) → wires.lines_from number outs ≡ map FactLine (wire_told number outs)
+pub wire_lines_told : (number : ℕ) (outs : List PartOutbox)
+    → wires.lines_from number outs ≡ map FactLine (wire_told number outs)
 unfolding wire_told
 wire_lines_told number [] = refl
 wire_lines_told number (out ∷ outs) =
@@ -126,24 +130,30 @@ wire_lines_told number (out ∷ outs) =
     ∙ (ap (λ (l : List Line). map FactLine out.facts ++ l) (sym (mapped (packet_facts number out.packets) (wire_told later outs)))
     ∙ sym (mapped out.facts (packet_facts number out.packets ++ wire_told later outs))))
 
-wire_without : (number : ℕ) (outs : List PartOutbox) → without_own (wire_told number outs) ≡ without_own (flat_map (λ (out : PartOutbox). out.facts) outs)
+wire_without : (number : ℕ) (outs : List PartOutbox)
+    → without_own (wire_told number outs) ≡ without_own (flat_map (λ (out : PartOutbox). out.facts) outs)
 unfolding wire_told
 wire_without number [] = refl
 wire_without number (out ∷ outs) =
     let later : ℕ = number + length out.packets in
     let rest : List Fact = flat_map (λ (x : PartOutbox). x.facts) outs in
     without_join out.facts (packet_facts number out.packets ++ wire_told later outs)
-    ∙ (ap (λ (l : List Fact). without_own out.facts ++ l) (without_all (packet_facts number out.packets) (wire_told later outs) (all_packets number out.packets) ∙ wire_without later outs)
+    ∙ (ap (λ (l : List Fact). without_own out.facts ++ l)
+    (without_all (packet_facts number out.packets) (wire_told later outs) (all_packets number out.packets)
+    ∙ wire_without later outs)
     ∙ sym (without_join out.facts rest))
 
 -- where no fact is told
-pub wire_told_own : (number : ℕ) (outs : List PartOutbox) → AllByRecursion (λ (out : PartOutbox). out.facts ≡ []) outs → AllOwn (wire_told number outs)
+pub wire_told_own : (number : ℕ) (outs : List PartOutbox) → AllByRecursion (λ (out : PartOutbox). out.facts ≡ []) outs
+    → AllOwn (wire_told number outs)
 unfolding wire_told
 wire_told_own number [] none = tt
 wire_told_own number (out ∷ outs) none =
     let later : ℕ = number + length out.packets in
-    subst (λ (some : List Fact). AllOwn (some ++ (packet_facts number out.packets ++ wire_told later outs))) (sym none.0)
-    (own_join (packet_facts number out.packets) (wire_told later outs) (all_packets number out.packets) (wire_told_own later outs none.1))
+    subst (λ (some : List Fact). AllOwn (some ++ (packet_facts number out.packets ++ wire_told later outs)))
+    (sym none.0)
+    (own_join (packet_facts number out.packets) (wire_told later outs) (all_packets number out.packets)
+    (wire_told_own later outs none.1))
 
 -- ---- a step that is carried on
 
@@ -153,7 +163,8 @@ told_as (facts.Saved table) rest = refl
 told_as fact rest = refl
 
 facts_told : (n : Net) (some : List Fact) (behind : List NetOutbox)
-    → without_own (flat_map (λ (out : NetOutbox). out.facts) (map (told_by n) some ++ behind)) ≡ without_own (some ++ flat_map (λ (out : NetOutbox). out.facts) behind)
+    → without_own (flat_map (λ (out : NetOutbox). out.facts) (map (told_by n) some ++ behind)) ≡ without_own
+    (some ++ flat_map (λ (out : NetOutbox). out.facts) behind)
 facts_told n [] behind = refl
 facts_told n (fact ∷ some) behind =
     let rest : List Fact = flat_map (λ (out : NetOutbox). out.facts) (map (told_by n) some ++ behind) in
@@ -163,14 +174,17 @@ facts_told n (fact ∷ some) behind =
     ∙ sym (without_join (fact ∷ []) (some ++ flat_map (λ (out : NetOutbox). out.facts) behind))))
 
 same_facts : (n : Net) (w : World) (outs : List PartOutbox)
-    → without_own (flat_map (λ (out : NetOutbox). out.facts) (outs_of n w outs)) ≡ without_own (flat_map (λ (out : PartOutbox). out.facts) outs)
+    → without_own (flat_map (λ (out : NetOutbox). out.facts) (outs_of n w outs)) ≡ without_own
+    (flat_map (λ (out : PartOutbox). out.facts) outs)
 same_facts n w [] = refl
 same_facts n w (out ∷ outs) =
     let rest : List Fact = flat_map (λ (x : NetOutbox). x.facts) (outs_of n w outs) in
-    ap (λ (l : List NetOutbox). without_own (flat_map (λ (x : NetOutbox). x.facts) l)) (append_assoc (map (told_by n) out.facts) (passed_on n w out.packets ∷ []) (outs_of n w outs))
+    ap (λ (l : List NetOutbox). without_own (flat_map (λ (x : NetOutbox). x.facts) l))
+    (append_assoc (map (told_by n) out.facts) (passed_on n w out.packets ∷ []) (outs_of n w outs))
     ∙ (facts_told n out.facts (passed_on n w out.packets ∷ outs_of n w outs)
     ∙ (without_join out.facts rest
-    ∙ (ap (λ (l : List Fact). without_own out.facts ++ l) (same_facts n w outs) ∙ sym (without_join out.facts (flat_map (λ (x : PartOutbox). x.facts) outs)))))
+    ∙ (ap (λ (l : List Fact). without_own out.facts ++ l) (same_facts n w outs)
+    ∙ sym (without_join out.facts (flat_map (λ (x : PartOutbox). x.facts) outs)))))
 
 left_none : {X : Type 0} (xs ys : List X) → xs ++ ys ≡ [] → (xs ≡ []) × (ys ≡ [])
 left_none [] ys e = (refl, e)
@@ -183,14 +197,17 @@ none_of number (p ∷ packets) e = absurd cc
 
 -- where the wire tells nothing
 module _ (n : Net) (w : World) where
-  none_told : (number count : ℕ) (outs : List PartOutbox) → wire_told count outs ≡ [] → told number (outs_of n w outs) ≡ []
+  none_told : (number count : ℕ) (outs : List PartOutbox) → wire_told count outs ≡ []
+      → told number (outs_of n w outs) ≡ []
   unfolding told wire_told
   none_told number count [] e = refl
   none_told number count (out ∷ outs) e =
       let a = left_none out.facts (packet_facts count out.packets ++ wire_told (count + length out.packets) outs) e in
       let b = left_none (packet_facts count out.packets) (wire_told (count + length out.packets) outs) a.1 in
-      ap (λ (some : List Fact). told number ((map (told_by n) some ++ passed_on n w out.packets ∷ []) ++ outs_of n w outs)) a.0
-      ∙ (ap (λ (ps : List PartPacket). told number (passed_on n w ps ∷ outs_of n w outs)) (none_of count out.packets b.0)
+      ap (λ (some : List Fact). told number
+      ((map (told_by n) some ++ passed_on n w out.packets ∷ []) ++ outs_of n w outs)) a.0
+      ∙ (ap (λ (ps : List PartPacket). told number (passed_on n w ps ∷ outs_of n w outs))
+      (none_of count out.packets b.0)
       ∙ none_told (number + 0) (count + length out.packets) outs b.1)
 
 ahead : (a : List Line) (b c : List Line) → a ++ (b ++ c) ≡ (a ++ b) ++ c
@@ -206,7 +223,8 @@ lines_carried n m v s = record {
       ∙ ahead (map AnswerLine (option_to_list s.answer)) s.counted (map FactLine (told (length n.sent) outs));
   whole_are = ap (λ (l : List Line). map AnswerLine (option_to_list s.answer) ++ (s.counted ++ l)) (wire_lines_told (length v.packets) s.outs)
       ∙ ahead (map AnswerLine (option_to_list s.answer)) s.counted (map FactLine (wire_told (length v.packets) s.outs));
-  same = told_without (length n.sent) outs ∙ (same_facts m s.wire.world s.outs ∙ sym (wire_without (length v.packets) s.outs));
+  same = told_without (length n.sent) outs
+      ∙ (same_facts m s.wire.world s.outs ∙ sym (wire_without (length v.packets) s.outs));
 }
   where
     head : List Line
@@ -215,7 +233,8 @@ lines_carried n m v s = record {
     outs : List NetOutbox
     outs = outs_of m s.wire.world s.outs
 
-pub lines_untold : (n m : Net) (v : Wire) (s : WireStep) → (lines_carried n m v s).others ≡ [] → (lines_carried n m v s).told ≡ []
+pub lines_untold : (n m : Net) (v : Wire) (s : WireStep) → (lines_carried n m v s).others ≡ []
+    → (lines_carried n m v s).told ≡ []
 unfolding wire_told lines_carried
 lines_untold n m v s none = none_told m s.wire.world (length n.sent) (length v.packets) s.outs none
 
@@ -245,7 +264,8 @@ packets_send number (p ∷ packets) rest = ap (λ (ns : List Node). p.to ∷ ns)
 abbrev pub ArePlainOuts : List NetOutbox → Type 0
 ArePlainOuts outs = AllByRecursion (λ (out : NetOutbox). ArePlainFacts out.facts) outs
 
-pub outs_send : (number : ℕ) (outs : List NetOutbox) → ArePlainOuts outs → sent_in (lines_from number outs) ≡ to_of (sent_by outs)
+pub outs_send : (number : ℕ) (outs : List NetOutbox) → ArePlainOuts outs
+    → sent_in (lines_from number outs) ≡ to_of (sent_by outs)
 outs_send number [] p = refl
 outs_send number (out ∷ outs) p =
     let later : ℕ = number + length out.sent in
@@ -261,10 +281,12 @@ plain_told : (m : Net) (some : List Fact) (behind : List NetOutbox) → ArePlain
 plain_told m [] behind p q = q
 plain_told m (fact ∷ some) behind p q = (told_plain fact p.0, plain_told m some behind p.1 q)
 
-plain_outs : (m : Net) (w : World) (outs : List PartOutbox) → AllByRecursion (λ (out : PartOutbox). ArePlainFacts out.facts) outs → ArePlainOuts (outs_of m w outs)
+plain_outs : (m : Net) (w : World) (outs : List PartOutbox)
+    → AllByRecursion (λ (out : PartOutbox). ArePlainFacts out.facts) outs → ArePlainOuts (outs_of m w outs)
 plain_outs m w [] p = tt
 plain_outs m w (out ∷ outs) p =
-    subst ArePlainOuts (sym (append_assoc (map (told_by m) out.facts) (passed_on m w out.packets ∷ []) (outs_of m w outs)))
+    subst ArePlainOuts (sym (append_assoc (map (told_by m) out.facts) (passed_on m w out.packets ∷ [])
+    (outs_of m w outs)))
     (plain_told m out.facts (passed_on m w out.packets ∷ outs_of m w outs) p.0 (tt, plain_outs m w outs p.1))
 
 wire_outs_send : (number : ℕ) (outs : List PartOutbox) → AllByRecursion (λ (out : PartOutbox). ArePlainFacts out.facts) outs → sent_in (wires.lines_from number outs) ≡ wires_to (packets_by outs)
@@ -275,14 +297,17 @@ wire_outs_send number (out ∷ outs) p =
     ∙ (packets_send number out.packets (wires.lines_from later outs)
     ∙ (ap (λ (ns : List Node). wires_to out.packets ++ ns) (wire_outs_send later outs p.1) ∙ sym (map-append (λ (x : PartPacket). x.to) out.packets (packets_by outs))))
 
-pub answer_sends : (o : Option Answer) (rest : List Line) → sent_in (map AnswerLine (option_to_list o) ++ rest) ≡ sent_in rest
+pub answer_sends : (o : Option Answer) (rest : List Line)
+    → sent_in (map AnswerLine (option_to_list o) ++ rest) ≡ sent_in rest
 answer_sends None rest = refl
 answer_sends (Some answer) rest = refl
 
 pub carried_sends : (n m : Net) (s : WireStep) → IsPlainWireStep s → sent_in (lines_of n (carried_on m s)) ≡ to_of (sent_by (carried_on m s).outs)
 carried_sends n m s p =
     let lines : List Line = lines_from (length n.sent) (outs_of m s.wire.world s.outs) in
-    answer_sends s.answer (s.counted ++ lines) ∙ (p.counted lines ∙ outs_send (length n.sent) (outs_of m s.wire.world s.outs) (plain_outs m s.wire.world s.outs p.facts))
+    answer_sends s.answer (s.counted ++ lines)
+    ∙ (p.counted lines ∙ outs_send (length n.sent) (outs_of m s.wire.world s.outs)
+    (plain_outs m s.wire.world s.outs p.facts))
 
 pub wire_sends : (v : Wire) (s : WireStep) → IsPlainWireStep s → sent_in (wires.lines_of v s) ≡ wires_to (packets_by s.outs)
 wire_sends v s p =
@@ -318,13 +343,18 @@ silent_told number (out ∷ outs) a =
     (own_join (sent_facts number out.sent) (told later outs) (all_sent number out.sent) (silent_told later outs a.1))
 
 -- what is carried of a step that tells nothing
-pub carried_silent : (m : Net) (w : World) (outs : List PartOutbox) → AllByRecursion (λ (out : PartOutbox). out.facts ≡ []) outs → AreSilent (outs_of m w outs)
+pub carried_silent : (m : Net) (w : World) (outs : List PartOutbox)
+    → AllByRecursion (λ (out : PartOutbox). out.facts ≡ []) outs → AreSilent (outs_of m w outs)
 carried_silent m w [] none = tt
 carried_silent m w (out ∷ outs) none =
-    subst (λ (some : List Fact). AreSilent ((map (told_by m) some ++ passed_on m w out.packets ∷ []) ++ outs_of m w outs)) (sym none.0) ((tt, tt), carried_silent m w outs none.1)
+    subst (λ (some : List Fact). AreSilent
+    ((map (told_by m) some ++ passed_on m w out.packets ∷ []) ++ outs_of m w outs)) (sym none.0)
+    ((tt, tt), carried_silent m w outs none.1)
 
-pub silent_sends : (n : Net) (s : NetStep) → s.counted ≡ [] → AreSilent s.outs → sent_in (lines_of n s) ≡ to_of (sent_by s.outs)
+pub silent_sends : (n : Net) (s : NetStep) → s.counted ≡ [] → AreSilent s.outs
+    → sent_in (lines_of n s) ≡ to_of (sent_by s.outs)
 silent_sends n s none silent =
     let lines : List Line = lines_from (length n.sent) s.outs in
     answer_sends s.answer (s.counted ++ lines)
-    ∙ (ap (λ (l : List Line). sent_in (l ++ lines)) none ∙ outs_send (length n.sent) s.outs (silent_plain s.outs silent))
+    ∙ (ap (λ (l : List Line). sent_in (l ++ lines)) none
+    ∙ outs_send (length n.sent) s.outs (silent_plain s.outs silent))

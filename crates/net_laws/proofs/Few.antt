@@ -41,11 +41,14 @@ use Rattle.wire_tables.specs.Wire.{PartPacket, part_table, wire_step}
 use Rattle.step_tables.specs.Facts as facts
 use Rattle.table_model.specs.declared.message.TableSubscription.{TableSubscription}
 use Rattle.gated_tables.specs.Net.{Net, NetStep, Sent, start, gate_at, device_at, is_node_down, unless_down, has_none, cut_by, restarted, client_taken, answered, if_idle, agenda_in}
-use Rattle.gated_tables.specs.Net.{answer_taken, to_client, restored, to_store, directory_of, to_gate, delivered_to, delivered, relinked, linked, joined, gate_declared}
+use Rattle.gated_tables.specs.Net.{answer_taken, to_client, restored, to_store, directory_of, to_gate, delivered_to}
+use Rattle.gated_tables.specs.Net.{delivered, relinked, linked, joined, gate_declared}
 use Rattle.gated_tables.specs.Net.{Asker, of_session, says_gone, says_made, answer_heard, is_linked, unless_busy, answering, asked_by, is_schema, creates, drops, to_create, to_drop, turned_away}
 use Rattle.gated_tables.specs.Net.{part_taken, is_shut, unless_away, asks_create, asks_drop, to_ask, is_open, to_give, if_read, to_end}
-use Rattle.gated_tables.specs.Net.{is_client, saves, to_save, has_failed, tables_told, asked_too, asks_each, changes_come, changes_told}
-use Rattle.gated_tables.specs.Net.{notified, token_with, asks_gate, to_subscribe, subscribing, unsubscribing, gate_ticks}
+use Rattle.gated_tables.specs.Net.{is_client, saves, to_save, has_failed, tables_told, asked_too, asks_each}
+use Rattle.gated_tables.specs.Net.{changes_come, changes_told}
+use Rattle.gated_tables.specs.Net.{notified, token_with, asks_gate, to_subscribe, subscribing, unsubscribing}
+use Rattle.gated_tables.specs.Net.{gate_ticks}
 use Rattle.gated_tables.specs.Net.{gates_tick, ticks, by_net}
 use Rattle.gated_tables.specs.Net.{gate_crashed, gate_started, client_started, net_step}
 use Rattle.gated_tables.specs.Runs.{net_from}
@@ -157,7 +160,8 @@ put_kept most n all number gateway here q found at = ⊎_elim
     (λ e. all q found (sym e.1 ∙ at)) (look_cases n.gates number gateway q)
 
 -- a tick draws none
-gate_ticks_few : (most number : ℕ) (o : Option Gateway) (s : NetStep) → gate_at s.net number ≡ o → AreGatesFew most s.net
+gate_ticks_few : (most number : ℕ) (o : Option Gateway) (s : NetStep) → gate_at s.net number ≡ o
+    → AreGatesFew most s.net
     → AreGatesFew most (gate_ticks number o s).net
 gate_ticks_few most number None s at few = few
 gate_ticks_few most number (Some gateway) s at few = go gateway.running (few number gateway at).drawn
@@ -303,7 +307,8 @@ module _ (most : ℕ) (n : Net) (all : AreGatesFew most n) where
   creates_few : (s : ℕ) (a : Asker) (m : CreateTable) (lucks : Lucks) (state : TableState) → AreFewBehind (creates n s a m lucks state)
   creates_few s a m lucks states.Draft = go (is_schema m.schema (schema_at n.wire.world m.table))
     where
-      go : (b : Bool) → AreFewBehind (if b then net.carried_on (asked_by m.table a n) (wire_step n.wire (events.Create (nodes.Store s) m.table) lucks) else answering n m.table a 18)
+      go : (b : Bool) → AreFewBehind (if b then net.carried_on (asked_by m.table a n)
+          (wire_step n.wire (events.Create (nodes.Store s) m.table) lucks) else answering n m.table a 18)
       go true = kept
       go false = kept
   creates_few s a m lucks states.Live = kept
@@ -316,11 +321,15 @@ module _ (most : ℕ) (n : Net) (all : AreGatesFew most n) where
 
   to_create_few : (s : ℕ) (p : Sent) (m : CreateTable) (lucks : Lucks) (o : Option Hosted) → AreFewBehind (to_create n s p m lucks o)
   to_create_few s p m lucks None = kept
-  to_create_few s p m lucks (Some hosted) = busy_few hosted _ (creates_few s (record { client = m.client; to = p.from; kind = 2 }) m lucks hosted.store.disk.state)
+  to_create_few s p m lucks (Some hosted) =
+      busy_few hosted _
+      (creates_few s (record { client = m.client; to = p.from; kind = 2 }) m lucks hosted.store.disk.state)
 
   to_drop_few : (s : ℕ) (p : Sent) (m : DropTable) (lucks : Lucks) (o : Option Hosted) → AreFewBehind (to_drop n s p m lucks o)
   to_drop_few s p m lucks None = kept
-  to_drop_few s p m lucks (Some hosted) = busy_few hosted _ (drops_few s (record { client = m.client; to = p.from; kind = 3 }) m lucks hosted.store.disk.state)
+  to_drop_few s p m lucks (Some hosted) =
+      busy_few hosted _
+      (drops_few s (record { client = m.client; to = p.from; kind = 3 }) m lucks hosted.store.disk.state)
 
   saves_few : (s : ℕ) (a : Asker) (m : SaveClientSubscription) (lucks : Lucks) (state : TableState)
       → AreFewBehind (saves n s a m lucks state)
@@ -489,7 +498,8 @@ module _ (most : ℕ) (n : Net) (all : AreGatesFew most n) where
 
   ticks_few : AreFewBehind (ticks n)
   ticks_few number gateway at =
-      few_more most gateway (gates_tick_few most (map (λ (e : ℕ × Gateway). e.0) n.gates) (net.still n facts.Done) all number gateway at)
+      few_more most gateway (gates_tick_few most (map (λ (e : ℕ × Gateway). e.0) n.gates)
+      (net.still n facts.Done) all number gateway at)
 
   net_few : (lucks : Lucks) (it : NetEvent) → AreFewBehind (by_net n lucks it)
   net_few lucks (nets.Subscribe c table period tolerance) =

@@ -1,5 +1,7 @@
--- Messages without a list, whose schema is short, have a frame.
-use Rattle.std.proofs.Common.{◌≡◌, ◌+◌, ◌≤◌, Bool, true, false, [], length, Option, Some, None, sym, subst, arith}
+-- Messages whose schema and list are short, where they have them, have a frame.
+use Rattle.std.proofs.Common.{◌≡◌, ℕ, ◌+◌, ◌*◌, ◌^◌, ◌<◌, ◌≤◌, Bool, true, false, List, [], ◌∷◌, length}
+use Rattle.std.proofs.Common.{Option, Some, None, refl, arith}
+use Rattle.std.specs.List.{flat_map}
 use Rattle.row_value.specs.declared.schema.Schema.{Schema}
 use Rattle.value_codec.specs.SchemaSpelling.{HasSchemaSpelling, schema_spelling}
 use Rattle.field_codec.specs.Forms.{four, eight, IsOptionIf, option_spelling}
@@ -8,7 +10,10 @@ use Rattle.table_model.specs.declared.message.Message.TheVariants as messages
 use Rattle.table_model.specs.declared.message.CreateTable.{CreateTable}
 use Rattle.table_model.specs.declared.message.OperationResponse.{OperationResponse}
 use Rattle.table_model.specs.declared.message.RestoreClientSubscriptions.{RestoreClientSubscriptions}
-use Rattle.sync_msgs.specs.Spelling.{IsClient, subscriptions_spelling, has_schema}
+use Rattle.table_model.specs.declared.message.SaveClientSubscription.{SaveClientSubscription}
+use Rattle.table_model.specs.declared.message.TableSubscription.{TableSubscription}
+use Rattle.sync_msgs.specs.Spelling.{IsClient, IsPeriod, has_schema, subscription_spelling}
+use Rattle.sync_msgs.specs.Spelling.{subscriptions_spelling}
 use Rattle.message_frames.specs.Frames.{HasFrame}
 use Rattle.net_network.specs.Short.{IsFramed, IsShort, HasWidths}
 
@@ -37,18 +42,46 @@ create_frame : (m : CreateTable) → HasWidths (messages.CreateTable m) → IsCl
 unfolding four eight
 create_frame m w client h = record { spelled = (client, (w.0, (w.1, h.spelled))); room = let short = h.short in omega (arith, short) }
 
--- of no subscriptions
-bare_restoring : (m : RestoreClientSubscriptions) → HasWidths (messages.RestoreClientSubscriptions m) → IsClient m.client
-    → HasFrame (messages.RestoreClientSubscriptions (record m { subscriptions = [] }))
+-- a period, from 1 where there is a subscription
+period_if : (on : Bool) (period : ℕ) → period < 2 ^ 32 → (on ≡ true → 1 ≤ period) → IsPeriod on period
+period_if true period most least = let low = least refl in record { least = low; most = omega (arith, most) }
+period_if false period most least = most
+
+save_frame : (m : SaveClientSubscription) → HasWidths (messages.SaveClientSubscription m) → IsClient m.client
+    → (m.on ≡ true → 1 ≤ m.period) → HasFrame (messages.SaveClientSubscription m)
+unfolding four eight
+save_frame m w client h = record {
+  spelled = (client, (w.0, (w.1, (tt, (period_if m.on m.period w.2 h, w.3)))));
+  room = omega arith;
+}
+
+-- each subscription takes twelve bytes
+subscriptions_len : (some : List TableSubscription) → length (flat_map subscription_spelling some) ≤ 12 * length some
+unfolding four
+subscriptions_len [] = omega arith
+subscriptions_len (s ∷ some) = let rest = subscriptions_len some in omega (arith, rest)
+
+restore_frame : (m : RestoreClientSubscriptions) → HasWidths (messages.RestoreClientSubscriptions m)
+    → IsClient m.client → length m.subscriptions ≤ 64 → HasFrame (messages.RestoreClientSubscriptions m)
 unfolding four eight subscriptions_spelling
-bare_restoring m w client = record { spelled = (client, (w, (tt, (omega arith, tt)))); room = omega arith }
+restore_frame m w client h = record {
+  spelled = (client, (w.0, (tt, (omega (arith, h), w.1))));
+  room = let len = subscriptions_len m.subscriptions in omega (arith, h, len);
+}
 
 pub short_frame : (m : Message) → HasWidths m → IsShort m → HasFrame m
 unfolding four eight
 short_frame (messages.RegisterDevice m) w h = record { spelled = h; room = omega arith }
 short_frame (messages.CreateTable m) w h = create_frame m w h.0 h.1
 short_frame (messages.DropTable m) w h = record { spelled = (h, (w.0, w.1)); room = omega arith }
+short_frame (messages.SubscribeTable m) w h = record {
+  spelled = (h.0, (w.0, (w.1, (period_if true m.period w.2 (λ on. h.1), w.3))));
+  room = omega arith;
+}
+short_frame (messages.UnsubscribeTable m) w h = record { spelled = (h, (w.0, w.1)); room = omega arith }
+short_frame (messages.Notify m) w h = record { spelled = (h, w); room = omega arith }
 short_frame (messages.OperationResponse m) w h = response_frame m w h.0 h.1
-short_frame (messages.RestoreClientSubscriptions m) w h =
-    subst (λ o. HasFrame (messages.RestoreClientSubscriptions (record m { subscriptions = o }))) (sym h.1) (bare_restoring m w h.0)
+short_frame (messages.SaveClientSubscription m) w h = save_frame m w h.0 h.1
+short_frame (messages.RestoreClientSubscriptions m) w h = restore_frame m w h.0 h.1
+short_frame (messages.TableVersionUpdateNotification m) w h = record { spelled = (w.0, (w.1, w.2)); room = omega arith }
 short_frame other w h = absurd h

@@ -1,8 +1,12 @@
 use super::*;
 use part_network::NetworkFault;
+use row_value::Sequence;
 use std::alloc::{AllocError, Global};
 use std::test::Fail;
-use table_model::{DropTable, Message, Node, OperationResponse, PullRequest, RegisterDevice};
+use table_model::{
+    DropTable, Message, Node, OperationResponse, PullRequest, RegisterDevice,
+    RestoreClientSubscriptions, TableSubscription,
+};
 
 const CLIENT: Node = Node::Client(3);
 
@@ -106,6 +110,49 @@ fn a_drop_and_its_answer_are_read(rt: HostRuntime) -> Result<(), Fail> {
     assert_eq!(rt; dropped(rt.alloc(), &network, 1)?, Some((2, 18)));
     // 5 bytes of length and kind each, and 16 of a drop and 22 of an answer
     assert_eq!(rt; network.bytes(), 48);
+    Ok(())
+}
+
+/// A Store answers that a client subscribes to table 2 every 5 ticks, with 1 more.
+fn send_restored(alloc: Global, network: &mut Network) -> Result<(), NetworkFault> {
+    let mut subscriptions = Sequence::new(alloc);
+    subscriptions.push(TableSubscription {
+        table: 2,
+        period: 5,
+        tolerance: 1,
+    })?;
+    let message = Message::RestoreClientSubscriptions(RestoreClientSubscriptions {
+        client: 3,
+        gate: 2,
+        reply: true,
+        subscriptions,
+    });
+    know_frame(&message);
+    network.send(STORE, GATE, &message)
+}
+
+/// The only subscription of an answer.
+fn restored(
+    alloc: Global,
+    network: &Network,
+    number: u64,
+) -> Result<Option<(u32, u32, u32)>, AllocError> {
+    match network.read(alloc, number)? {
+        Some(Message::RestoreClientSubscriptions(m)) => match m.subscriptions.as_slice() {
+            [one] => Ok(Some((one.table, one.period, one.tolerance))),
+            _ => Ok(None),
+        },
+        _ => Ok(None),
+    }
+}
+
+#[test]
+fn subscriptions_that_are_kept_are_read(rt: HostRuntime) -> Result<(), Fail> {
+    let mut network = Network::new(rt.alloc());
+    send_restored(rt.alloc(), &mut network)?;
+    assert_eq!(rt; restored(rt.alloc(), &network, 0)?, Some((2, 5, 1)));
+    // 5 bytes of length and kind, 9 of who it is for, 4 of the count and 12 of each subscription
+    assert_eq!(rt; network.bytes(), 30);
     Ok(())
 }
 

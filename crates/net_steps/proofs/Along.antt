@@ -18,37 +18,37 @@ use Rattle.net_steps.proofs.Walked.{more_than}
 -- ---- lines
 
 module _ (n : Net) (v : Wire) (start : List Sent) (all : List Line) (before : List TextLine) where
-  joined : (gone : List Sent) (line : Line) (rest : List Line) → (gone ++ sent_walk n v.packets (line ∷ [])) ++ sent_walk n v.packets rest ≡ gone ++ sent_walk n v.packets (line ∷ rest)
+  joined : (gone : List Sent) (line : Line) (rest : List Line) → (gone ++ sent_walk n v (line ∷ [])) ++ sent_walk n v rest ≡ gone ++ sent_walk n v (line ∷ rest)
   joined gone line rest =
-      ap (λ (l : List Sent). (gone ++ l) ++ sent_walk n v.packets rest) (append-nil (sent_for n v.packets line)) ∙ append_assoc gone (sent_for n v.packets line) (sent_walk n v.packets rest)
+      ap (λ (l : List Sent). (gone ++ l) ++ sent_walk n v rest) (append-nil (sent_for n v line)) ∙ append_assoc gone (sent_for n v line) (sent_walk n v rest)
 
-  joined_lines : (xs : List Line) (number next : ℕ) (line : Line) (rest : List Line) → next ≡ number + length (sent_for n v.packets line)
-      → (xs ++ told_walk n v.packets number (line ∷ [])) ++ told_walk n v.packets next rest ≡ xs ++ told_walk n v.packets number (line ∷ rest)
+  joined_lines : (xs : List Line) (number next : ℕ) (line : Line) (rest : List Line) → next ≡ number + length (sent_for n v line)
+      → (xs ++ told_walk n v number (line ∷ [])) ++ told_walk n v next rest ≡ xs ++ told_walk n v number (line ∷ rest)
   joined_lines xs number next line rest is =
-      ap (λ (l : List Line). (xs ++ l) ++ told_walk n v.packets next rest) (append-nil (told_for n v.packets number line))
-      ∙ (append_assoc xs (told_for n v.packets number line) (told_walk n v.packets next rest)
-      ∙ ap (λ (k : ℕ). xs ++ (told_for n v.packets number line ++ told_walk n v.packets k rest)) is)
+      ap (λ (l : List Line). (xs ++ l) ++ told_walk n v next rest) (append-nil (told_for n v number line))
+      ∙ (append_assoc xs (told_for n v number line) (told_walk n v next rest)
+      ∙ ap (λ (k : ℕ). xs ++ (told_for n v number line ++ told_walk n v k rest)) is)
 
   pub walks_next : (line : Line) (rest : List Line) (network later : Network) (now after : List TextLine) → (w : WalksOn n v start all (line ∷ rest) network before now)
-      → AreWalked n v.packets w.gone (line ∷ []) later now after → WalksOn n v start all rest later before after
+      → AreWalked n v w.gone (line ∷ []) later now after → WalksOn n v start all rest later before after
   walks_next line rest network later now after w a = record {
-    gone = w.gone ++ sent_walk n v.packets (line ∷ []);
+    gone = w.gone ++ sent_walk n v (line ∷ []);
     sent = a.sent;
     there = w.there.1;
     gone_is = joined w.gone line rest ∙ w.gone_is;
-    lines = ap (λ (l : List Line). l ++ told_walk n v.packets (length (w.gone ++ sent_walk n v.packets (line ∷ []))) rest) a.lines
-        ∙ (joined_lines (map line_of now) (length w.gone) (length (w.gone ++ sent_walk n v.packets (line ∷ []))) line rest
-        (length-append w.gone (sent_walk n v.packets (line ∷ [])) ∙ ap (λ (l : List Sent). length w.gone + length l) (append-nil (sent_for n v.packets line)))
+    lines = ap (λ (l : List Line). l ++ told_walk n v (length (w.gone ++ sent_walk n v (line ∷ []))) rest) a.lines
+        ∙ (joined_lines (map line_of now) (length w.gone) (length (w.gone ++ sent_walk n v (line ∷ []))) line rest
+        (length-append w.gone (sent_walk n v (line ∷ [])) ∙ ap (λ (l : List Sent). length w.gone + length l) (append-nil (sent_for n v line)))
         ∙ w.lines);
   }
 
-  pub walks_all : (network : Network) (now : List TextLine) → WalksOn n v start all [] network before now → AreWalked n v.packets start all network before now
+  pub walks_all : (network : Network) (now : List TextLine) → WalksOn n v start all [] network before now → AreWalked n v start all network before now
   walks_all network now w = record {
     sent = subst (HasSent network v.packets) (sym (append-nil w.gone) ∙ w.gone_is) w.sent;
     lines = sym (append-nil (map line_of now)) ∙ w.lines;
   }
 
   pub walks_over : (line : Line) (rest : List Line) (network : Network) (now : List TextLine) → (w : WalksOn n v start all (line ∷ rest) network before now) → (e : WorldFault)
-      → IsOverFault (w.gone ++ sent_walk n v.packets (line ∷ [])) e → IsOverFault (start ++ sent_walk n v.packets all) e
+      → IsOverFault (w.gone ++ sent_walk n v (line ∷ [])) e → IsOverFault (start ++ sent_walk n v all) e
   walks_over line rest network now w e over count is =
-      subst (λ (l : List Sent). most_bytes < net_bytes l) (joined w.gone line rest ∙ w.gone_is) (more_than (w.gone ++ sent_walk n v.packets (line ∷ [])) (sent_walk n v.packets rest) (over count is))
+      subst (λ (l : List Sent). most_bytes < net_bytes l) (joined w.gone line rest ∙ w.gone_is) (more_than (w.gone ++ sent_walk n v (line ∷ [])) (sent_walk n v rest) (over count is))

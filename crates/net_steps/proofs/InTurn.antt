@@ -33,7 +33,7 @@ use Rattle.net_steps.specs.Handing.{HasGone}
 
 -- ---- lines and bytes
 
-lines_join : (number : ℕ) (xs ys : List Sent) → sent_lines number (xs ++ ys) ≡ sent_lines number xs ++ sent_lines (number + length xs) ys
+pub lines_join : (number : ℕ) (xs ys : List Sent) → sent_lines number (xs ++ ys) ≡ sent_lines number xs ++ sent_lines (number + length xs) ys
 lines_join number [] ys = let e : number ≡ number + 0 = omega arith in ap (λ (k : ℕ). sent_lines k ys) e
 lines_join number (x ∷ xs) ys =
     let e : (number + 1) + length xs ≡ number + suc (length xs) = omega arith in
@@ -72,6 +72,25 @@ line_added before after number count from to name m is counted named =
     ∙ (map-append line_of before (lines.Fact (told.Sent number from to name) ∷ [])
     ∙ (ap (λ (k : ℕ). map line_of before ++ FactLine (facts.Sent k from to name) ∷ []) counted
     ∙ ap (λ (x : MessageName). map line_of before ++ FactLine (facts.Sent count from to x) ∷ []) named))
+
+-- ---- some messages, and more behind them
+
+pub sent_then : (ps : List PartPacket) (gone first more : List Sent) (network later : Network) (before middle after : List TextLine) → AreSent ps gone first network before middle
+    → AreSent ps (gone ++ first) more later middle after → AreSent ps gone (first ++ more) later before after
+sent_then ps gone first more network later before middle after a b = record {
+  sent = subst (HasSent later ps) (append_assoc gone first more) b.sent;
+  lines = b.lines
+      ∙ (ap (λ (l : List Line). l ++ sent_lines (length (gone ++ first)) more) a.lines
+      ∙ (append_assoc (map line_of before) (sent_lines (length gone) first) (sent_lines (length (gone ++ first)) more)
+      ∙ (ap (λ (k : ℕ). map line_of before ++ (sent_lines (length gone) first ++ sent_lines k more)) (length-append gone first)
+      ∙ ap (λ (l : List Line). map line_of before ++ l) (sym (lines_join (length gone) first more)))));
+}
+
+pub sent_over : (gone first more : List Sent) (e : WorldFault) → IsOverFault ((gone ++ first) ++ more) e → IsOverFault (gone ++ (first ++ more)) e
+sent_over gone first more e over = subst (λ (l : List Sent). IsOverFault l e) (append_assoc gone first more) over
+
+pub over_then : (gone first more : List Sent) (e : WorldFault) → IsOverFault (gone ++ first) e → IsOverFault (gone ++ (first ++ more)) e
+over_then gone first more e over = sent_over gone first more e (λ count is. over_more (gone ++ first) more (over count is))
 
 -- ---- one message after the other
 

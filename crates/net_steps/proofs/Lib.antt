@@ -13,9 +13,11 @@ pub mod Onward
 pub mod Along
 pub mod CarriedOut
 pub mod Said
+pub mod Changed
 pub mod Brought
 pub mod Linking
 pub mod Delivered
+pub mod Restored
 pub mod Sessions
 pub mod Coming
 pub mod Passing
@@ -32,3 +34,4 @@ pub mod Created
 pub mod TurnedAway
 pub mod Owed
 pub mod Requested
+pub mod Ticked

@@ -1,20 +1,17 @@
 -- What a table's owner answers who asked for it.
-use Rattle.std.proofs.Common.{◌≡◌, ◌⊎◌, ⊎_elim, ℕ, Bool, true, false, List, [], Option, Some, None, sym, ◌∙◌, ap, subst, append-nil}
-use Rattle.std.specs.Prelude.{◌==◌, ◌&&◌, map, if◌then◌else◌}
+use Rattle.std.proofs.Common.{◌≡◌, ℕ, Bool, true, false, List, [], Option, Some, None, sym, ◌∙◌, ap, subst, append-nil}
+use Rattle.std.specs.Prelude.{◌==◌, ◌&&◌, ◌||◌, map, if◌then◌else◌}
 use Rattle.disk_trait.specs.Calls.{DiskState}
-use Rattle.field_codec.specs.Forms.{IsOptionIf}
 use Rattle.row_value.specs.declared.schema.Schema.{Schema}
 use Rattle.stab_base.specs.declared.node.Node.{Node}
 use Rattle.stab_base.specs.declared.node.Node.TheVariants as nodes
 use Rattle.step_tables.specs.Lines.{line_of}
-use Rattle.sync_msgs.specs.Spelling.{has_schema}
 use Rattle.table_model.specs.declared.line.TextLine.{TextLine}
 use Rattle.table_model.specs.declared.message.Message.TheVariants as messages
 use Rattle.wire_tables.specs.Wire.{PartPacket, Wire}
 use Rattle.world_tables.specs.World.{World as AWorld, owner_of, schema_at}
 use Rattle.gated_tables.specs.Net.{Net, Sent, answer_from, answers_to, asker_at, schema_with}
 use Rattle.net_network.specs.Packets.{HasSent}
-use Rattle.net_network.specs.Short.{IsFramed}
 use Rattle.net_network.specs.declared.network.Network.{Network}
 use Rattle.net_steps.specs.declared.answer.Due.TheVariants as due
 use Rattle.net_steps.specs.declared.asker.Asker.{Asker}
@@ -22,7 +19,7 @@ use Rattle.net_steps.specs.declared.world.World.{World}
 use Rattle.net_steps.specs.Askers.{asker_of}
 use Rattle.net_steps.specs.Carrying.{AreSent}
 use Rattle.net_steps.specs.Walking.{IsAlong, IsSameTable, IsToAnswer, IsToFollow, sends_as}
-use Rattle.net_steps.proofs.Routed.{made_framed}
+use Rattle.net_steps.proofs.Routed.{answer_framed}
 
 -- ---- the answer
 
@@ -35,18 +32,18 @@ answer_by owner table client to kind status schema = record {
 
 -- a table that is the same has the same schema
 pub schema_same : (w after : AWorld) (table kind status : ℕ) → IsSameTable w after table → schema_with after table kind status ≡ schema_with w table kind status
-schema_same w after table kind status same = ap (λ (o : Option Schema). if (kind == 2) && (status == 0) then o else None) same.schema
+schema_same w after table kind status same = ap (λ (o : Option Schema). if ((kind == 2) || (kind == 4)) && (status == 0) then o else None) same.schema
 
 pub answer_is : (w : AWorld) (table client : ℕ) (to : Node) (kind status owner : ℕ) (schema : Option Schema) → owner ≡ owner_of w table → schema ≡ schema_with w table kind status
-    → answer_by owner table client to kind status schema ≡ answer_from w table (record { client = client; to = to }) kind status
+    → answer_by owner table client to kind status schema ≡ answer_from w table (record { client = client; to = to; kind = kind }) status
 answer_is w table client to kind status owner schema o s =
     ap (λ (k : ℕ). answer_by k table client to kind status schema) o ∙ ap (λ (x : Option Schema). answer_by (owner_of w table) table client to kind status x) s
 
 -- the answer has it, or not
-pub schema_given : (w : AWorld) (table kind status : ℕ) → ((kind == 2) && (status == 0)) ≡ true → schema_with w table kind status ≡ schema_at w table
+pub schema_given : (w : AWorld) (table kind status : ℕ) → (((kind == 2) || (kind == 4)) && (status == 0)) ≡ true → schema_with w table kind status ≡ schema_at w table
 schema_given w table kind status e = ap (λ (b : Bool). if b then schema_at w table else None) e
 
-pub schema_not_given : (w : AWorld) (table kind status : ℕ) → ((kind == 2) && (status == 0)) ≡ false → schema_with w table kind status ≡ None
+pub schema_not_given : (w : AWorld) (table kind status : ℕ) → (((kind == 2) || (kind == 4)) && (status == 0)) ≡ false → schema_with w table kind status ≡ None
 schema_not_given w table kind status e = ap (λ (b : Bool). if b then schema_at w table else None) e
 
 -- ---- nothing
@@ -56,18 +53,13 @@ none_sent ps gone network lines h = record { sent = subst (HasSent network ps) (
 
 -- ---- who asked
 
-module _ {D : Type 0} (state : D → DiskState) (n : Net) (v : Wire) (world : World D) (k : IsAlong state n v world) (table kind : ℕ) where
-  framed : (it : Asker) → asker_at n table ≡ Some (asker_of it) → (kind ≡ 2) ⊎ (kind ≡ 3) → IsOptionIf (has_schema kind 0) IsFramed (schema_with n.wire.world table kind 0)
-  framed it at = ⊎_elim
-      (λ made. subst (λ (j : ℕ). IsOptionIf (has_schema j 0) IsFramed (schema_with n.wire.world table j 0)) (sym made) (made_framed n k.asked table (asker_of it) at))
-      (λ unmade. subst (λ (j : ℕ). IsOptionIf (has_schema j 0) IsFramed (schema_with n.wire.world table j 0)) (sym unmade) tt)
-
-  pub to_answer : (it : Asker) → asker_at n table ≡ Some (asker_of it) → IsToFollow n v (due.Answer table kind) → IsToAnswer state n.wire.world v table it.client kind 0 world
-  to_answer it at may = record { wire = k.wire; same = may.0; client = (k.asked.each table (asker_of it) at).0; framed = framed it at may.1 }
+module _ {D : Type 0} (state : D → DiskState) (n : Net) (v : Wire) (world : World D) (k : IsAlong state n v world) (table : ℕ) where
+  pub to_answer : (it : Asker) → asker_at n table ≡ Some (asker_of it) → IsToFollow n v (due.Answer table) → IsToAnswer state n.wire.world v table it.client it.kind 0 world
+  to_answer it at may = record { wire = k.wire; same = may; client = (k.asked.each table (asker_of it) at).0; framed = answer_framed n k.asked table (asker_of it) at }
 
 -- what is sent to this asker, or to none
-pub asker_sent : (n : Net) (table kind : ℕ) (it : Asker) → asker_at n table ≡ Some (asker_of it) → sends_as n (due.Answer table kind) ≡ answers_to n.wire.world table kind (Some (asker_of it))
-asker_sent n table kind it at = ap (answers_to n.wire.world table kind) at
+pub asker_sent : (n : Net) (table : ℕ) (it : Asker) → asker_at n table ≡ Some (asker_of it) → sends_as n (due.Answer table) ≡ answers_to n.wire.world table (Some (asker_of it))
+asker_sent n table it at = ap (answers_to n.wire.world table) at
 
-pub no_asker_sent : (n : Net) (table kind : ℕ) → asker_at n table ≡ None → sends_as n (due.Answer table kind) ≡ []
-no_asker_sent n table kind at = ap (answers_to n.wire.world table kind) at
+pub no_asker_sent : (n : Net) (table : ℕ) → asker_at n table ≡ None → sends_as n (due.Answer table) ≡ []
+no_asker_sent n table at = ap (answers_to n.wire.world table) at

@@ -32,7 +32,7 @@ use Rattle.message_parts.specs.Parts.{part_of}
 use Rattle.part_network.specs.Packets.{bytes_of}
 use Rattle.gated_tables.specs.Devices.{Device, is_online}
 use Rattle.wire_tables.specs.Wire.{wire_step}
-use Rattle.gated_tables.specs.Net.{Net, NetStep, Sent, agenda_in, answered, answer_heard, answer_taken, asks_again, asks_session, busy_with, carried_on, cutting, device_at, if_idle, is_linked, lines_of, of_session, restored, restoring, says_gone, says_made, sending, sent_lines, still, to_client, to_create, to_drop, to_store, with_device}
+use Rattle.gated_tables.specs.Net.{Net, NetStep, Sent, agenda_in, answered, answer_heard, answer_taken, asks_again, asks_session, busy_with, carried_on, cutting, device_at, if_idle, is_linked, lines_of, notified, of_session, restored, restoring, says_gone, says_made, sending, sent_lines, still, to_client, to_create, to_drop, to_save, to_store, with_device}
 use Rattle.gated_laws.proofs.Reached.{kept_net}
 use Rattle.net_network.specs.Packets.{HasSent, net_bytes, whole_in, whole_of, unless_part}
 use Rattle.net_network.specs.Short.{IsShort}
@@ -45,12 +45,16 @@ use Rattle.net_steps.specs.declared.world.World.{World}
 use Rattle.net_steps.specs.Carrying.{AreSent, IsOverFault}
 use Rattle.net_steps.specs.Holds.{Holds, AreShort, IsShortSent}
 use Rattle.net_steps.specs.Steps.{IsMoved, IsDone, IsPast, HavePlansBelow, all_faults}
-use Rattle.net_steps.specs.Delivering.{IsUpIn, IsLinkedIn, IsComing, Delivers, made_heard, response_in, told_in, step_begun}
+use Rattle.net_steps.specs.Delivering.{IsUpIn, IsLinkedIn, IsComing, Delivers, made_heard, told_in, step_begun}
+use Rattle.net_steps.specs.Notifying.{heard_in}
+use Rattle.net_steps.specs.declared.session.Heard.{Heard}
+use Rattle.net_steps.specs.declared.session.Heard.TheVariants as heard
 use Rattle.net_steps.specs.declared.tables.Told.{Told}
 use Rattle.net_steps.specs.declared.tables.Told.TheVariants as tells
 use Rattle.net_steps.proofs.Moved.{still_moved, linked_moved}
 use Rattle.net_steps.proofs.Routed.{bytes_grow, short_join, register_short}
 use Rattle.net_steps.proofs.Delivered.{memory_delivers, send_delivers, done_delivers, still_delivers}
+use Rattle.net_steps.proofs.Restored.{few_kept}
 
 -- ---- what is sent beside the wire
 
@@ -258,25 +262,29 @@ whole_there o one at none = ap whole_in at ∙ whole_part one none
 abbrev pub told_step : Net → ℕ → Sent → Lucks → Told → NetStep
 told_step n store p lucks (tells.Create m) = to_create n store p m lucks (hosted_by n.wire.world store m.table)
 told_step n store p lucks (tells.Drop m) = to_drop n store p m lucks (hosted_by n.wire.world store m.table)
+told_step n store p lucks (tells.Save m) = to_save n store p m lucks (hosted_by n.wire.world store m.table)
 told_step n store p lucks (tells.Restore m) = restored n store p m (busy_live n.wire.world store)
 told_step n store p lucks tells.Nothing = still n facts.Done
+
+-- and a client
+abbrev pub heard_step : Net → ℕ → Lucks → Heard → NetStep
+heard_step n c lucks (heard.Answer m) = answer_taken n c m lucks (device_at n c)
+heard_step n c lucks (heard.Changes bits) = notified n c bits lucks (device_at n c)
+heard_step n c lucks heard.Nothing = still n facts.Done
 
 module _ (n : Net) (from to : Node) (lucks : Lucks) where
   abbrev with : Message → Sent
   with message = record { from = from; to = to; message = message }
 
-  by_response : (c : ℕ) (message : Message) (m : OperationResponse) → response_in (Some message) ≡ Some m
-      → to_client n c (with message) lucks None ≡ answer_taken n c m lucks (device_at n c)
-  by_response c (messages.OperationResponse k) m e = let same : k ≡ m = some_is k m e in ap (λ (x : OperationResponse). answer_taken n c x lucks (device_at n c)) same
-  by_response c other m e = absurd (let none : None ≡ Some m = e in cc)
-
-  by_other : (c : ℕ) (message : Message) → response_in (Some message) ≡ None → to_client n c (with message) lucks None ≡ still n facts.Done
-  by_other c (messages.OperationResponse k) e = absurd (let some : Some k ≡ None = e in cc)
-  by_other c other e = refl
+  by_heard : (c : ℕ) (message : Message) → to_client n c (with message) lucks None ≡ heard_step n c lucks (heard_in (Some message))
+  by_heard c (messages.OperationResponse m) = refl
+  by_heard c (messages.Notify m) = refl
+  by_heard c other = refl
 
   by_told : (store : ℕ) (message : Message) → to_store n store (with message) lucks None ≡ told_step n store (with message) lucks (told_in (Some message))
   by_told store (messages.CreateTable m) = refl
   by_told store (messages.DropTable m) = refl
+  by_told store (messages.SaveClientSubscription m) = refl
   by_told store (messages.RestoreClientSubscriptions m) = refl
   by_told store other = refl
 
@@ -284,12 +292,14 @@ module _ (n : Net) (from to : Node) (lucks : Lucks) where
 abbrev pub IsToldOf : Told → Type 0
 IsToldOf (tells.Create m) = spelling.IsClient m.client
 IsToldOf (tells.Drop m) = spelling.IsClient m.client
+IsToldOf (tells.Save m) = spelling.IsClient m.client
 IsToldOf (tells.Restore m) = spelling.IsClient m.client
 IsToldOf tells.Nothing = Unit {0}
 
 told_short : (message : Message) → IsShort message → IsToldOf (told_in (Some message))
 told_short (messages.CreateTable m) short = short.0
 told_short (messages.DropTable m) short = short
+told_short (messages.SaveClientSubscription m) short = short.0
 told_short (messages.RestoreClientSubscriptions m) short = short.0
 told_short other short = tt
 
@@ -302,12 +312,9 @@ module _ {D : Type 0} (state : D → DiskState) (is_out : ℕ → Bool) (number 
     found_is : found ≡ Some x.one.message
     found_is = read ∙ whole_there (slice_get x.n.sent number) x.one x.stands x.part_is
 
-    pub client_answers : (m : OperationResponse) → response_in found ≡ Some m → (lucks : Lucks)
-        → to_client x.n c x.one lucks (part_of x.one.message) ≡ answer_taken x.n c m lucks (device_at x.n c)
-    client_answers m e lucks = ap (to_client x.n c x.one lucks) x.part_is ∙ by_response x.n x.one.from x.one.to lucks c x.one.message m (sym (ap response_in found_is) ∙ e)
-
-    pub client_ignores : response_in found ≡ None → (lucks : Lucks) → to_client x.n c x.one lucks (part_of x.one.message) ≡ still x.n facts.Done
-    client_ignores e lucks = ap (to_client x.n c x.one lucks) x.part_is ∙ by_other x.n x.one.from x.one.to lucks c x.one.message (sym (ap response_in found_is) ∙ e)
+    pub client_hears : (it : Heard) → heard_in found ≡ it → (lucks : Lucks) → to_client x.n c x.one lucks (part_of x.one.message) ≡ heard_step x.n c lucks it
+    client_hears it e lucks = ap (to_client x.n c x.one lucks) x.part_is
+        ∙ (by_heard x.n x.one.from x.one.to lucks c x.one.message ∙ ap (heard_step x.n c lucks) (sym (ap heard_in found_is) ∙ e))
 
   module _ (store : ℕ) (x : IsComing state is_out number from (nodes.Store store) None old) (found : Option Message) (read : found ≡ whole_in (slice_get x.n.sent number)) where
     found_at : found ≡ Some x.one.message
@@ -355,8 +362,9 @@ busy_none n store found told is = go (busy_live n.wire.world store) (sym (ap (op
     go None e = refl
     go (Some table) e = absurd (let bad : None ≡ Some (busy_lines n.wire.world table) = e in cc)
 
-restoring_one : (store : ℕ) (p : Sent) (m : RestoreClientSubscriptions) → spelling.IsClient m.client → AreShort (restoring store p m ∷ [])
-restoring_one store p m is = ((λ none. (is, refl)), tt)
+restoring_one : (n : Net) (store : ℕ) (p : Sent) (m : RestoreClientSubscriptions) → spelling.IsClient m.client
+    → AreShort (restoring n store p m ∷ [])
+restoring_one n store p m is = ((λ none. (is, few_kept n.wire.world store m.client)), tt)
 
 module _ {D : Type 0} (state : D → DiskState) (images : D → ℕ → List ℕ → Type 0) (only_now : (disk : D) (image : List ℕ) → images disk (state disk).moment image → IsImage (state disk).pending image)
     (is_out : ℕ → Bool) (n : Net) (store : ℕ) (p : Sent) (m : RestoreClientSubscriptions) (old : World D) (x : IsUpIn state is_out (nodes.Store store) n old) where
@@ -366,16 +374,16 @@ module _ {D : Type 0} (state : D → DiskState) (images : D → ℕ → List ℕ
   -- it sends its answer
   module _ (new : World D) (to : new ≡ record old { network = new.network }) where
     pub restores_delivers : spelling.IsClient m.client → (before after : List TextLine) → map line_of before ≡ AnswerLine facts.Done ∷ []
-        → AreSent n.wire.packets n.sent (restoring store p m ∷ []) new.network before after
-        → Delivers state images n (λ lucks. sending n (restoring store p m ∷ [])) (Ok after) is_out old new
+        → AreSent n.wire.packets n.sent (restoring n store p m ∷ []) new.network before after
+        → Delivers state images n (λ lucks. sending n (restoring n store p m ∷ [])) (Ok after) is_out old new
     restores_delivers is before after first k =
-        sends_delivers state images n n is_out old old x.held refl unmoved (restoring store p m ∷ []) (λ lucks. sending n (restoring store p m ∷ [])) refl
-        (restoring_one store p m is) (λ k below. below) new to before after first k
+        sends_delivers state images n n is_out old old x.held refl unmoved (restoring n store p m ∷ []) (λ lucks. sending n (restoring n store p m ∷ [])) refl
+        (restoring_one n store p m is) (λ k below. below) new to before after first k
 
-    pub restores_fails : (e : WorldFault) → IsSendFault e → IsOverFault (n.sent ++ restoring store p m ∷ []) e
-        → Delivers state images n (λ lucks. sending n (restoring store p m ∷ [])) (Err e) is_out old new
+    pub restores_fails : (e : WorldFault) → IsSendFault e → IsOverFault (n.sent ++ restoring n store p m ∷ []) e
+        → Delivers state images n (λ lucks. sending n (restoring n store p m ∷ [])) (Err e) is_out old new
     restores_fails e only over =
-        sends_fails state images n n is_out old old x.held refl unmoved (restoring store p m ∷ []) (λ lucks. sending n (restoring store p m ∷ [])) refl (λ k below. below) new to e only over
+        sends_fails state images n n is_out old old x.held refl unmoved (restoring n store p m ∷ []) (λ lucks. sending n (restoring n store p m ∷ [])) refl (λ k below. below) new to e only over
 
   -- or it is at work
   pub busy_delivers : (table : ℕ) → busy_live n.wire.world store ≡ Some table → (lines : List TextLine) → map line_of lines ≡ busy_lines n.wire.world table

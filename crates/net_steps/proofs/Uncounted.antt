@@ -30,10 +30,9 @@ use Rattle.world_tables.specs.Turns.{Happening}
 use Rattle.wire_laws.specs.Runs.{AreBuilt}
 use Rattle.wire_laws.proofs.WireSteps.{all_come}
 use Rattle.wire_laws.proofs.WireRuns.{IsGoing, going_ground, run_goes}
-use Rattle.gated_laws.specs.Carried.{is_sent}
 use Rattle.gated_laws.proofs.NetLines.{IsPlainWireStep}
 use Rattle.gated_laws.proofs.Reached.{plain_wire}
-use Rattle.net_steps.specs.Carrying.{ArePlain, IsPlainLine, IsPlainStep}
+use Rattle.net_steps.specs.Carrying.{ArePlain, IsPlainLine, IsPlainStep, is_packet}
 
 abbrev AreCounted : WorldStep → Type 0
 AreCounted s = AllByRecursion IsPlainLine s.counted
@@ -230,7 +229,7 @@ unsent : (some : List Fact) → ArePlainFacts some → ArePlain some
 unsent [] p = tt
 unsent (fact ∷ some) p = (one fact p.0, unsent some p.1)
   where
-    one : (f : Fact) → IsPlainFact f → is_sent f ≡ false
+    one : (f : Fact) → IsPlainFact f → is_packet f ≡ false
     one (facts.Sent packet from to name) q = absurd q
     one other q = refl
 

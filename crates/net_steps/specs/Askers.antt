@@ -1,4 +1,4 @@
--- What the program has of who asked for tables to be made or dropped.
+-- What the program has of who asked for tables to be made or dropped, or for subscriptions to them.
 use Rattle.std.specs.Prelude.{◌≡◌, ℕ, true, List, Some, is_some, option_map}
 use Rattle.std.specs.Ordering.{nat_cmp}
 use Rattle.std.specs.Map.{lookup}
@@ -11,7 +11,7 @@ use Rattle.net_network.specs.Short.{IsFramed}
 use Rattle.net_steps.specs.declared.asker.Asker.{Asker}
 
 abbrev pub asker_of : Asker → tables.Asker
-asker_of it = record { client = it.client; to = it.to }
+asker_of it = record { client = it.client; to = it.to; kind = it.kind }
 
 -- of each table
 abbrev pub HoldsAskers : List (ℕ × tables.Asker) → tree.BTreeMap ℕ Asker → Type 0

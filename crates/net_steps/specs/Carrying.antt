@@ -1,15 +1,15 @@
 -- What a step of the wire told and sent, with what goes by way of gateways.
-use Rattle.std.specs.Prelude.{◌≡◌, ◌⊎◌, ℕ, ◌≤◌, ◌<◌, ◌++◌, false, List, [], map, length}
+use Rattle.std.specs.Prelude.{◌≡◌, ◌⊎◌, ℕ, ◌≤◌, ◌<◌, ◌++◌, Bool, true, false, List, [], map, length}
 use Rattle.std.specs.List.{AllByRecursion, flat_map}
 use Rattle.disk_trait.specs.Calls.{DiskState}
 use Rattle.table_model.specs.declared.line.TextLine.{TextLine}
 use Rattle.step_tables.specs.Facts.{Fact, Line, FactLine}
+use Rattle.step_tables.specs.Facts as facts
 use Rattle.step_tables.specs.Lines.{line_of}
 use Rattle.wire_tables.specs.Wire.{Wire, WireStep, PartOutbox}
 use Rattle.wire_tables.specs.Wire as wires
 use Rattle.part_network.specs.Packets.{most_bytes, bytes_of}
 use Rattle.gated_tables.specs.Net.{Net, Sent, lines_of, sent_lines, carried_on}
-use Rattle.gated_laws.specs.Carried.{is_sent}
 use Rattle.net_network.specs.Packets.{HasSent, net_bytes}
 use Rattle.net_network.specs.declared.network.Network.{Network}
 use Rattle.node_steps.specs.declared.fault.WorldFault.{WorldFault}
@@ -20,8 +20,13 @@ use Rattle.net_steps.specs.Walking.{IsAlong, IsSameTable}
 
 -- ---- what a step of the wire told
 
+-- whether a fact is that a packet was sent
+abbrev pub is_packet : Fact → Bool
+is_packet (facts.Sent packet from to name) = true
+is_packet other = false
+
 abbrev pub ArePlain : List Fact → Type 0
-ArePlain some = AllByRecursion (λ (fact : Fact). is_sent fact ≡ false) some
+ArePlain some = AllByRecursion (λ (fact : Fact). is_packet fact ≡ false) some
 
 -- lines that are counted are entries and pairs
 abbrev pub IsPlainLine : Line → Type 0

@@ -10,5 +10,8 @@ pub mod Handing
 pub mod Alone
 pub mod Through
 pub mod Walking
+pub mod Changing
 pub mod Delivering
 pub mod Requesting
+pub mod Notifying
+pub mod Ticking

@@ -1,5 +1,5 @@
 -- The lines of a step of the wire, one after the other: what is told and sent for each of them with gateways.
-use Rattle.std.specs.Prelude.{◌≡◌, ◌⊎◌, ℕ, ◌+◌, List, [], ◌∷◌, ◌++◌, length, map, Some, slice_get, option_to_list}
+use Rattle.std.specs.Prelude.{◌≡◌, ℕ, ◌+◌, List, [], ◌∷◌, ◌++◌, length, map, Some, slice_get, option_to_list}
 use Rattle.std.specs.List.{AllByRecursion, flat_map}
 use Rattle.disk_trait.specs.Calls.{DiskState}
 use Rattle.row_store.specs.Spelling.{IsClient}
@@ -12,8 +12,8 @@ use Rattle.step_tables.specs.Lines.{line_of}
 use Rattle.world_tables.specs.World.{World as AWorld, owner_of, schema_at}
 use Rattle.wire_tables.specs.Wire.{PartPacket, Wire, part_name}
 use Rattle.gated_tables.specs.Devices.{Device}
-use Rattle.gated_tables.specs.Net.{Net, Sent, answers_to, asker_at, asks_again, device_at, routed, schema_with}
-use Rattle.gated_tables.specs.Net.{sends_by, sent_lines}
+use Rattle.gated_tables.specs.Net.{Net, Sent, answers_to, asker_at, asks_again, device_at, passed_with, schema_with}
+use Rattle.gated_tables.specs.Net.{sends_by, sent_lines, told_of}
 use Rattle.net_network.specs.Packets.{HasSent}
 use Rattle.net_network.specs.Short.{IsFramed}
 use Rattle.net_network.specs.declared.network.Network.{Network}
@@ -28,13 +28,14 @@ use Rattle.net_steps.specs.Devices.{HoldsDevices}
 
 abbrev pub follows : Fact → Due
 follows (facts.ClientRecovered c) = kinds.Session c
-follows (facts.Made table) = kinds.Answer table 2
-follows (facts.Unmade table) = kinds.Answer table 3
+follows (facts.Made table) = kinds.Answer table
+follows (facts.Unmade table) = kinds.Answer table
+follows (facts.Saved table) = kinds.Answer table
 follows other = kinds.Nothing
 
 abbrev pub sends_as : Net → Due → List Sent
 sends_as n (kinds.Session c) = asks_again c (device_at n c)
-sends_as n (kinds.Answer table kind) = answers_to n.wire.world table kind (asker_at n table)
+sends_as n (kinds.Answer table) = answers_to n.wire.world table (asker_at n table)
 sends_as n kinds.Nothing = []
 
 -- ---- what is known on the way
@@ -44,20 +45,22 @@ pub record IsSameTable (w after : AWorld) (table : ℕ) : Type 0 where
   pub owner : owner_of after table ≡ owner_of w table
   pub schema : schema_at after table ≡ schema_at w table
 
--- a packet that a line tells is one of these, with the same parties; a table that is made or dropped is the same
+-- a packet that a line tells is one of these, with the same parties; a table that is made or dropped, or to which a
+-- subscription is kept, is the same
 abbrev pub IsThere : Net → Wire → Line → Type 0
 IsThere n v (FactLine (facts.Sent packet from to name)) =
     (p : PartPacket) × (slice_get v.packets packet ≡ Some p) × (p.from ≡ from) × (p.to ≡ to) × (part_name p.part ≡ name)
 IsThere n v (FactLine (facts.Made table)) = IsSameTable n.wire.world v.world table
 IsThere n v (FactLine (facts.Unmade table)) = IsSameTable n.wire.world v.world table
+IsThere n v (FactLine (facts.Saved table)) = IsSameTable n.wire.world v.world table
 IsThere n v other = Unit {0}
 
 abbrev pub AreThere : Net → Wire → List Line → Type 0
 AreThere n v lines = AllByRecursion (IsThere n v) lines
 
--- a table whose asker may be answered is the same, and was made or dropped
+-- a table whose asker may be answered is the same
 abbrev pub IsToFollow : Net → Wire → Due → Type 0
-IsToFollow n v (kinds.Answer table kind) = IsSameTable n.wire.world v.world table × ((kind ≡ 2) ⊎ (kind ≡ 3))
+IsToFollow n v (kinds.Answer table) = IsSameTable n.wire.world v.world table
 IsToFollow n v other = Unit {0}
 
 -- clients with gateways have numbers that messages can tell
@@ -82,31 +85,33 @@ pub record IsToAnswer {D : Type 0} (state : D → DiskState) (w : AWorld) (v : W
 
 -- ---- what is told and sent
 
-abbrev pub sent_for : Net → List PartPacket → Line → List Sent
-sent_for n ps (FactLine (facts.Sent packet from to name)) = map (routed n) (option_to_list (slice_get ps packet))
-sent_for n ps (FactLine fact) = sends_by n fact
-sent_for n ps other = []
+-- behind a packet that goes on, gateways are told of changes by the wire behind the step
+abbrev pub sent_for : Net → Wire → Line → List Sent
+sent_for n v (FactLine (facts.Sent packet from to name)) =
+    flat_map (passed_with n v.world) (option_to_list (slice_get v.packets packet))
+sent_for n v (FactLine fact) = sends_by n fact
+sent_for n v other = []
 
-abbrev pub told_for : Net → List PartPacket → ℕ → Line → List Line
-told_for n ps number (FactLine (facts.Sent packet from to name)) =
-    sent_lines number (map (routed n) (option_to_list (slice_get ps packet)))
-told_for n ps number (FactLine fact) = FactLine fact ∷ sent_lines number (sends_by n fact)
-told_for n ps number other = other ∷ []
+abbrev pub told_for : Net → Wire → ℕ → Line → List Line
+told_for n v number (FactLine (facts.Sent packet from to name)) =
+    sent_lines number (flat_map (passed_with n v.world) (option_to_list (slice_get v.packets packet)))
+told_for n v number (FactLine fact) = map FactLine (told_of fact) ++ sent_lines number (sends_by n fact)
+told_for n v number other = other ∷ []
 
-abbrev pub sent_walk : Net → List PartPacket → List Line → List Sent
-sent_walk n ps lines = flat_map (sent_for n ps) lines
+abbrev pub sent_walk : Net → Wire → List Line → List Sent
+sent_walk n v lines = flat_map (sent_for n v) lines
 
 -- the lines with gateways, where so many messages were sent before
-abbrev pub told_walk : Net → List PartPacket → ℕ → List Line → List Line
-told_walk n ps number [] = []
-told_walk n ps number (line ∷ lines) =
-    told_for n ps number line ++ told_walk n ps (number + length (sent_for n ps line)) lines
+abbrev pub told_walk : Net → Wire → ℕ → List Line → List Line
+told_walk n v number [] = []
+told_walk n v number (line ∷ lines) =
+    told_for n v number line ++ told_walk n v (number + length (sent_for n v line)) lines
 
 -- These were sent for some lines, behind the others, and what is told for them stands behind the lines so far.
-pub record AreWalked (n : Net) (ps : List PartPacket) (gone : List Sent) (some : List Line) (network : Network)
+pub record AreWalked (n : Net) (v : Wire) (gone : List Sent) (some : List Line) (network : Network)
     (before after : List TextLine) : Type 0 where
-  pub sent : HasSent network ps (gone ++ sent_walk n ps some)
-  pub lines : map line_of after ≡ map line_of before ++ told_walk n ps (length gone) some
+  pub sent : HasSent network v.packets (gone ++ sent_walk n v some)
+  pub lines : map line_of after ≡ map line_of before ++ told_walk n v (length gone) some
 
 -- ---- on the way
 
@@ -116,6 +121,6 @@ pub record WalksOn (n : Net) (v : Wire) (start : List Sent) (all rest : List Lin
   pub gone : List Sent
   pub sent : HasSent network v.packets gone
   pub there : AreThere n v rest
-  pub gone_is : gone ++ sent_walk n v.packets rest ≡ start ++ sent_walk n v.packets all
-  pub lines : map line_of now ++ told_walk n v.packets (length gone) rest
-      ≡ map line_of before ++ told_walk n v.packets (length start) all
+  pub gone_is : gone ++ sent_walk n v rest ≡ start ++ sent_walk n v all
+  pub lines : map line_of now ++ told_walk n v (length gone) rest
+      ≡ map line_of before ++ told_walk n v (length start) all

@@ -1,5 +1,5 @@
-//! What the owner of a table answers who asked for it to be made or dropped.
-ghost use Rattle.std.specs.Prelude.{◌≡◌, ◌==◌, ◌&&◌, ◌++◌, ◌∷◌, [], ℕ, List, IfOk, IfErr, OnOk};
+//! What the owner of a table answers who asked for it to be made or dropped, or for a subscription to it.
+ghost use Rattle.std.specs.Prelude.{◌≡◌, ◌==◌, ◌&&◌, ◌||◌, ◌++◌, ◌∷◌, [], ℕ, List, IfOk, IfErr, OnOk};
 ghost use Rattle.step_tables.specs.Lines.{fact_of};
 ghost use Rattle.world_tables.specs.World.{World as AWorld, schema_at};
 ghost use Rattle.wire_tables.specs.Wire.{Wire, PartPacket};
@@ -26,8 +26,8 @@ use table_model::{Fact, Message, OperationResponse};
 pub(crate) enum Due {
     /// A client that has recovered asks for a session.
     Session(ClientNo),
-    /// Who asked for the table by a message of this kind is answered.
-    Answer(TableNo, u8),
+    /// Who asked last for something of the table is answered.
+    Answer(TableNo),
     Nothing,
 }
 
@@ -36,17 +36,18 @@ pub(crate) fn follows(fact: &Fact) -> Due
 {
     match fact {
         Fact::ClientRecovered { client } => Due::Session(*client),
-        Fact::Made { table } => Due::Answer(*table, 2),
-        Fact::Unmade { table } => Due::Answer(*table, 3),
+        Fact::Made { table } | Fact::Unmade { table } | Fact::Saved { table } => {
+            Due::Answer(*table)
+        }
         _ => Due::Nothing,
     }
 }
 
-// Whether an answer has the table's schema: that it is made.
+// Whether an answer has the table's schema: that it is made, or that a subscription to it is kept.
 fn gives_schema(kind: u8, status: u32) -> bool
-    ensures { result ≡ ((kind == 2) && (status == 0)) }
+    ensures { result ≡ (((kind == 2) || (kind == 4)) && (status == 0)) }
 {
-    kind == 2 && status == 0
+    (kind == 2 || kind == 4) && status == 0
 }
 
 impl<D: Disk + Drop> World<D> {
@@ -64,7 +65,7 @@ impl<D: Disk + Drop> World<D> {
         }
     }
 
-    // The answer that a table is made has its schema.
+    // The answer that a table is made, or that a client subscribes to it, has its schema.
     fn schema_with(
         &self,
         table: TableNo,
@@ -80,33 +81,32 @@ impl<D: Disk + Drop> World<D> {
         Ok(None)
     }
 
-    /// Answers who asked for a table by a message of this kind: 0 where it is carried out, and 18 where the table is in
-    /// another state.
+    /// Answers who asked for something of a table: 0 where it is carried out, and 18 where the table is in another
+    /// state.
     pub(crate) fn answer(
         &mut self,
         table: TableNo,
         asker: Asker,
-        kind: u8,
         status: u32,
         lines: &mut Lines,
     ) -> Result<(), WorldFault>
-        requires here { (w : AWorld) × (v : Wire) × IsToAnswer D.state w v table asker.client kind status self.old }
+        requires here { (w : AWorld) × (v : Wire) × IsToAnswer D.state w v table asker.client asker.kind status self.old }
         ensures sent { (w : AWorld) (v : Wire) (ps : List PartPacket) (sent : List Sent)
-            → IsToAnswer D.state w v table asker.client kind status self.old → HasSent self.old.network ps sent
-            → OnOk result (AreSent ps sent (answer_from w table (asker_of asker) kind status ∷ [])
+            → IsToAnswer D.state w v table asker.client asker.kind status self.old → HasSent self.old.network ps sent
+            → OnOk result (AreSent ps sent (answer_from w table (asker_of asker) status ∷ [])
             self.new.network lines.old lines.new) }
         ensures over { (w : AWorld) (v : Wire) (ps : List PartPacket) (sent : List Sent)
-            → IsToAnswer D.state w v table asker.client kind status self.old → HasSent self.old.network ps sent
-            → IfErr result (IsOverFault (sent ++ answer_from w table (asker_of asker) kind status ∷ [])) }
+            → IsToAnswer D.state w v table asker.client asker.kind status self.old → HasSent self.old.network ps sent
+            → IfErr result (IsOverFault (sent ++ answer_from w table (asker_of asker) status ∷ [])) }
         ensures only { IfErr result IsSendFault }
         ensures same { self.new ≡ record self.old { network = self.new.network } }
     {
-        let schema = self.schema_with(table, kind, status)?;
+        let schema = self.schema_with(table, asker.kind, status)?;
         let owner = self.wire.owner(table);
         let message = Message::OperationResponse(OperationResponse {
             client: asker.client,
             table,
-            answered: kind,
+            answered: asker.kind,
             status,
             token: 0,
             schema,
@@ -115,21 +115,21 @@ impl<D: Disk + Drop> World<D> {
     }
 
     // Who asked last for a table is answered that it is carried out.
-    fn answer_asker(&mut self, table: TableNo, kind: u8, told: &mut Lines) -> Result<(), WorldFault>
+    fn answer_asker(&mut self, table: TableNo, told: &mut Lines) -> Result<(), WorldFault>
         requires along { (n : Net) × (v : Wire) × IsAlong D.state n v self.old
-            × IsToFollow n v (due.Answer table kind) }
+            × IsToFollow n v (due.Answer table) }
         ensures sent { (n : Net) (v : Wire) (sent : List Sent) → IsAlong D.state n v self.old
-            → IsToFollow n v (due.Answer table kind) → HasSent self.old.network v.packets sent
-            → OnOk result (AreSent v.packets sent (sends_as n (due.Answer table kind)) self.new.network told.old
+            → IsToFollow n v (due.Answer table) → HasSent self.old.network v.packets sent
+            → OnOk result (AreSent v.packets sent (sends_as n (due.Answer table)) self.new.network told.old
             told.new) }
         ensures over { (n : Net) (v : Wire) (sent : List Sent) → IsAlong D.state n v self.old
-            → IsToFollow n v (due.Answer table kind) → HasSent self.old.network v.packets sent
-            → IfErr result (IsOverFault (sent ++ sends_as n (due.Answer table kind))) }
+            → IsToFollow n v (due.Answer table) → HasSent self.old.network v.packets sent
+            → IfErr result (IsOverFault (sent ++ sends_as n (due.Answer table))) }
         ensures only { IfErr result IsSendFault }
         ensures same { self.new ≡ record self.old { network = self.new.network } }
     {
         match self.askers.get(&table).copied() {
-            Some(asker) => self.answer(table, asker, kind, 0, told),
+            Some(asker) => self.answer(table, asker, 0, told),
             None => Ok(()),
         }
     }
@@ -148,7 +148,7 @@ impl<D: Disk + Drop> World<D> {
     {
         match next {
             Due::Session(client) => self.ask_again(client, told),
-            Due::Answer(table, kind) => self.answer_asker(table, kind, told),
+            Due::Answer(table) => self.answer_asker(table, told),
             Due::Nothing => Ok(()),
         }
     }

@@ -17,12 +17,12 @@ ghost use Rattle.gated_laws.specs.Carried.{is_sent};
 ghost use Rattle.net_steps.specs.Walking.{IsAlong, IsThere, AreThere, AreWalked, AreNumbered, sent_walk};
 ghost use Rattle.message_parts.specs.Parts.{message_at};
 ghost use Rattle.gated_tables.specs.Devices.{stamped};
-ghost use Rattle.gated_tables.specs.Net.{routed};
+ghost use Rattle.gated_tables.specs.Net.{passed_with, routed};
 ghost use Rattle.wire_steps.specs.Sending.{IsSendFault};
 ghost use Rattle.net_steps.specs.Carrying.{IsToCarry, IsCarried, IsOverFault, AreSent};
 ghost use Rattle.net_steps.specs.Devices.{HoldsDevices};
 
-use crate::answer::follows;
+use crate::answer::{Due, follows};
 use crate::device::Device;
 use crate::say::fault_of;
 use crate::world::World;
@@ -70,7 +70,7 @@ fn route_of(devices: &BTreeMap<ClientNo, Device>, from: Node, to: Node) -> Route
 
 impl<D: Disk + Drop> World<D> {
     // Sends a packet of the wire on its way, and adds its line.
-    fn carry_sent(
+    fn pass(
         &mut self,
         packet: u64,
         from: Node,
@@ -109,16 +109,41 @@ impl<D: Disk + Drop> World<D> {
         Ok(())
     }
 
-    // A fact that isn't that a packet was sent, and what follows it.
+    // A packet of the wire, and what gateways are told behind it.
+    fn carry_sent(
+        &mut self,
+        packet: u64,
+        from: Node,
+        to: Node,
+        name: MessageName,
+        lines: &mut Lines,
+    ) -> Result<(), WorldFault>
+        requires { (v : Wire) × wires.Holds D.state v self.old.wire }
+        ensures sent { (n : Net) (v : Wire) (sent : List Sent) (p : PartPacket) → wires.Holds D.state v self.old.wire
+            → HoldsDevices n.devices self.old.devices → HasSent self.old.network v.packets sent
+            → slice_get v.packets packet ≡ Some p → p.from ≡ from → p.to ≡ to → part_name p.part ≡ name
+            → OnOk result (AreSent v.packets sent (passed_with n v.world p) self.new.network lines.old lines.new) }
+        ensures over { (n : Net) (v : Wire) (sent : List Sent) (p : PartPacket) → wires.Holds D.state v self.old.wire
+            → HoldsDevices n.devices self.old.devices → HasSent self.old.network v.packets sent
+            → slice_get v.packets packet ≡ Some p → p.from ≡ from → p.to ≡ to → part_name p.part ≡ name
+            → IfErr result (IsOverFault (sent ++ passed_with n v.world p)) }
+        ensures only { IfErr result IsSendFault }
+        ensures same { self.new ≡ record self.old { network = self.new.network } }
+    {
+        self.pass(packet, from, to, name, lines)?;
+        self.tell_changes(packet, from, name, lines)
+    }
+
+    // A fact that is told, and isn't that a packet was sent, with what follows it.
     fn tell_fact(&mut self, fact: Fact, told: &mut Lines) -> Result<(), WorldFault>
         requires plain { is_sent (fact_of fact) ≡ false }
         requires along { (n : Net) × (v : Wire) × IsAlong D.state n v self.old × IsThere n v (FactLine (fact_of fact)) }
         ensures walked { (n : Net) (v : Wire) (sent : List Sent) → IsAlong D.state n v self.old
             → HasSent self.old.network v.packets sent → IsThere n v (FactLine (fact_of fact)) → OnOk result
-            (AreWalked n v.packets sent (FactLine (fact_of fact) ∷ []) self.new.network told.old told.new) }
+            (AreWalked n v sent (FactLine (fact_of fact) ∷ []) self.new.network told.old told.new) }
         ensures over { (n : Net) (v : Wire) (sent : List Sent) → IsAlong D.state n v self.old
             → HasSent self.old.network v.packets sent → IsThere n v (FactLine (fact_of fact))
-            → IfErr result (IsOverFault (sent ++ sent_walk n v.packets (FactLine (fact_of fact) ∷ []))) }
+            → IfErr result (IsOverFault (sent ++ sent_walk n v (FactLine (fact_of fact) ∷ []))) }
         ensures only { IfErr result IsSendFault }
         ensures same { self.new ≡ record self.old { network = self.new.network } }
     {
@@ -132,10 +157,10 @@ impl<D: Disk + Drop> World<D> {
         requires along { (n : Net) × (v : Wire) × IsAlong D.state n v self.old × IsThere n v (FactLine (fact_of fact)) }
         ensures walked { (n : Net) (v : Wire) (sent : List Sent) → IsAlong D.state n v self.old
             → HasSent self.old.network v.packets sent → IsThere n v (FactLine (fact_of fact)) → OnOk result
-            (AreWalked n v.packets sent (FactLine (fact_of fact) ∷ []) self.new.network told.old told.new) }
+            (AreWalked n v sent (FactLine (fact_of fact) ∷ []) self.new.network told.old told.new) }
         ensures over { (n : Net) (v : Wire) (sent : List Sent) → IsAlong D.state n v self.old
             → HasSent self.old.network v.packets sent → IsThere n v (FactLine (fact_of fact))
-            → IfErr result (IsOverFault (sent ++ sent_walk n v.packets (FactLine (fact_of fact) ∷ []))) }
+            → IfErr result (IsOverFault (sent ++ sent_walk n v (FactLine (fact_of fact) ∷ []))) }
         ensures only { IfErr result IsSendFault }
         ensures same { self.new ≡ record self.old { network = self.new.network } }
     {
@@ -146,6 +171,8 @@ impl<D: Disk + Drop> World<D> {
                 to,
                 name,
             } => self.carry_sent(packet, from, to, name, told),
+            // that a subscription is kept is told by its answer alone
+            Fact::Saved { table } => self.follow(Due::Answer(table), told),
             other => self.tell_fact(other, told),
         }
     }
@@ -154,10 +181,10 @@ impl<D: Disk + Drop> World<D> {
         requires along { (n : Net) × (v : Wire) × IsAlong D.state n v self.old × IsThere n v (line_of line) }
         ensures walked { (n : Net) (v : Wire) (sent : List Sent) → IsAlong D.state n v self.old
             → HasSent self.old.network v.packets sent → IsThere n v (line_of line) → OnOk result
-            (AreWalked n v.packets sent (line_of line ∷ []) self.new.network told.old told.new) }
+            (AreWalked n v sent (line_of line ∷ []) self.new.network told.old told.new) }
         ensures over { (n : Net) (v : Wire) (sent : List Sent) → IsAlong D.state n v self.old
             → HasSent self.old.network v.packets sent → IsThere n v (line_of line)
-            → IfErr result (IsOverFault (sent ++ sent_walk n v.packets (line_of line ∷ []))) }
+            → IfErr result (IsOverFault (sent ++ sent_walk n v (line_of line ∷ []))) }
         ensures only { IfErr result IsSendFault }
         ensures same { self.new ≡ record self.old { network = self.new.network } }
     {
@@ -174,10 +201,10 @@ impl<D: Disk + Drop> World<D> {
         requires along { (n : Net) × (v : Wire) × IsAlong D.state n v self.old × AreThere n v (map line_of lines) }
         ensures walked { (n : Net) (v : Wire) (sent : List Sent) → IsAlong D.state n v self.old
             → HasSent self.old.network v.packets sent → AreThere n v (map line_of lines) → OnOk result
-            (AreWalked n v.packets sent (map line_of lines) self.new.network told.old told.new) }
+            (AreWalked n v sent (map line_of lines) self.new.network told.old told.new) }
         ensures over { (n : Net) (v : Wire) (sent : List Sent) → IsAlong D.state n v self.old
             → HasSent self.old.network v.packets sent → AreThere n v (map line_of lines)
-            → IfErr result (IsOverFault (sent ++ sent_walk n v.packets (map line_of lines))) }
+            → IfErr result (IsOverFault (sent ++ sent_walk n v (map line_of lines))) }
         ensures only { IfErr result IsSendFault }
         ensures same { self.new ≡ record self.old { network = self.new.network } }
     {

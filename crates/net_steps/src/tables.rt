@@ -1,5 +1,5 @@
 //! What a Store makes of messages about tables: it makes and drops them, and turns away what is asked of one that isn't
-//! live.
+//! live. Subscriptions are kept in `saving`.
 ghost use Rattle.std.specs.Prelude.{◌≡◌, ℕ, Bool, Some, None};
 ghost use Rattle.disk_trait.specs.Calls.{IsCounted};
 ghost use Rattle.stab_base.specs.declared.node.Node.{Node as ANode};
@@ -30,7 +30,8 @@ use node_steps::{Lines, WorldFault};
 use row_value::Schema;
 use stab_base::{Node, StoreNo, TableNo};
 use table_model::{
-    Answer, CreateTable, DropTable, Event, Message, RestoreClientSubscriptions, TableState,
+    Answer, CreateTable, DropTable, Event, Message, RestoreClientSubscriptions,
+    SaveClientSubscription, TableState,
 };
 
 /// A message that is no part, as a Store takes it.
@@ -38,6 +39,7 @@ use table_model::{
 pub(crate) enum Told {
     Create(CreateTable),
     Drop(DropTable),
+    Save(SaveClientSubscription),
     Restore(RestoreClientSubscriptions),
     Nothing,
 }
@@ -57,34 +59,34 @@ fn told_in(message: Option<Message>) -> Told
     match message {
         Some(Message::CreateTable(asked)) => Told::Create(asked),
         Some(Message::DropTable(asked)) => Told::Drop(asked),
+        Some(Message::SaveClientSubscription(asked)) => Told::Save(asked),
         Some(Message::RestoreClientSubscriptions(asked)) => Told::Restore(asked),
         _ => Told::Nothing,
     }
 }
 
 impl<D: Disk + Drop> World<D> {
-    // An answer of a Store alone.
-    fn answer_alone(
+    /// An answer of a Store alone.
+    pub(crate) fn answer_alone(
         &mut self,
         table: TableNo,
         asker: Asker,
-        kind: u8,
         status: u32,
     ) -> Result<Lines, WorldFault>
         requires here { (is_out : ℕ → Bool) × (to : ANode) × (n : Net) × IsUpIn D.state is_out to n self.old
-            × IsToAnswer D.state n.wire.world n.wire table asker.client kind status self.old }
+            × IsToAnswer D.state n.wire.world n.wire table asker.client asker.kind status self.old }
         ensures { (is_out : ℕ → Bool) (to : ANode) (n : Net) → IsUpIn D.state is_out to n self.old
-            → IsToAnswer D.state n.wire.world n.wire table asker.client kind status self.old
-            → Delivers D.state D.images n (λ lucks. answering n table (asker_of asker) kind status) result is_out
+            → IsToAnswer D.state n.wire.world n.wire table asker.client asker.kind status self.old
+            → Delivers D.state D.images n (λ lucks. answering n table (asker_of asker) status) result is_out
             self.old self.new }
     {
         let mut lines = self.only(Answer::Done)?;
-        self.answer(table, asker, kind, status, &mut lines)?;
+        self.answer(table, asker, status, &mut lines)?;
         Ok(lines)
     }
 
-    // The state of a table that this Store, which is up, keeps.
-    fn state_by(&self, store: StoreNo, table: TableNo) -> Option<TableState>
+    /// The state of a table that this Store, which is up, keeps.
+    pub(crate) fn state_by(&self, store: StoreNo, table: TableNo) -> Option<TableState>
         ensures { (is_out : ℕ → Bool) (n : Net) → IsUpIn D.state is_out (nodes.Store store) n self.now
             → IsStateOf result (hosted_by n.wire.world store table) }
     {
@@ -105,8 +107,8 @@ impl<D: Disk + Drop> World<D> {
         }
     }
 
-    // A Store makes or drops a table, and who asked for it is kept.
-    fn alter<P: Depot<Disk = D>>(
+    /// A Store makes or drops a table or keeps a subscription to it, and who asked for it is kept.
+    pub(crate) fn alter<P: Depot<Disk = D>>(
         &mut self,
         depot: &mut P,
         event: &Event,
@@ -146,7 +148,7 @@ impl<D: Disk + Drop> World<D> {
         ensures depot { IsCounted DepotFailed (P.state depot.old).faults (P.state depot.new).faults result }
     {
         if !self.is_declared(asked.table, &asked.schema) {
-            return self.answer_alone(asked.table, asker, 2, 18);
+            return self.answer_alone(asked.table, asker, 18);
         }
         let event = Event::Create {
             node: Node::Store(store),
@@ -164,9 +166,9 @@ impl<D: Disk + Drop> World<D> {
             (λ lucks. creates n store (asker_of asker) asked.now lucks states.Live) result is_out self.old self.new }
     {
         if self.is_declared(asked.table, &asked.schema) {
-            return self.answer_alone(asked.table, asker, 2, 0);
+            return self.answer_alone(asked.table, asker, 0);
         }
-        self.answer_alone(asked.table, asker, 2, 18)
+        self.answer_alone(asked.table, asker, 18)
     }
 
     fn create_by<P: Depot<Disk = D>>(
@@ -188,7 +190,7 @@ impl<D: Disk + Drop> World<D> {
         match state {
             TableState::Draft => self.create_draft(depot, store, asker, asked),
             TableState::Live => self.create_live(asker, asked),
-            TableState::Dropped => self.answer_alone(asked.table, asker, 2, 18),
+            TableState::Dropped => self.answer_alone(asked.table, asker, 18),
         }
     }
 
@@ -218,6 +220,7 @@ impl<D: Disk + Drop> World<D> {
                 let asker = Asker {
                     client: asked.client,
                     to: from,
+                    kind: 2,
                 };
                 self.create_by(depot, store, asker, asked, state)
             }
@@ -271,7 +274,7 @@ impl<D: Disk + Drop> World<D> {
                 };
                 self.alter(depot, &event, table, asker)
             }
-            _ => self.answer_alone(table, asker, 3, 18),
+            _ => self.answer_alone(table, asker, 18),
         }
     }
 
@@ -300,6 +303,7 @@ impl<D: Disk + Drop> World<D> {
                 let asker = Asker {
                     client: asked.client,
                     to: from,
+                    kind: 3,
                 };
                 self.drop_by(depot, store, asker, asked.table, state)
             }
@@ -346,6 +350,7 @@ impl<D: Disk + Drop> World<D> {
         match told_in(found) {
             Told::Create(asked) => self.create(depot, store, from, &asked),
             Told::Drop(asked) => self.drop_table(depot, store, from, asked),
+            Told::Save(asked) => self.save(depot, store, from, asked),
             Told::Restore(asked) => self.restore(store, from, asked),
             Told::Nothing => self.only(Answer::Done),
         }
@@ -388,8 +393,9 @@ impl<D: Disk + Drop> World<D> {
                 let asker = Asker {
                     client: asked.client,
                     to: from,
+                    kind: asked.kind,
                 };
-                self.answer_alone(asked.table, asker, asked.kind, 18)
+                self.answer_alone(asked.table, asker, 18)
             }
             None => self.only(Answer::Done),
         }

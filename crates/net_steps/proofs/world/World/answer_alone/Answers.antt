@@ -12,16 +12,16 @@ answer-requires g c = let k = c.requires.here in record { here = (k.2.wire.world
 pub returns-in_err-lines : goal.returns-in_err-lines
 returns-in_err-lines g c is_out to n x k =
     let q = err_from_is_err_and c.from_residual.result c.from_residual.ensures.1 in
-    rw q.1 (memory_delivers g.D.Disk.state g.D.Disk.images n (λ lucks. answering n c.args.table (asker_of c.args.asker) c.args.kind c.args.status) q.0 (q.2 ∙ c.in_err-lines.ensures.memory) is_out
+    rw q.1 (memory_delivers g.D.Disk.state g.D.Disk.images n (λ lucks. answering n c.args.table (asker_of c.args.asker) c.args.status) q.0 (q.2 ∙ c.in_err-lines.ensures.memory) is_out
     c.args.self.now c.args.self.now (λ m below. below))
 
 pub returns-in_err-answer : goal.returns-in_err-answer
 returns-in_err-answer g c is_out to n x k =
     let q = err_from_is_err_and c.from_residual-in_err-answer.result c.from_residual-in_err-answer.ensures.1 in
-    rw (q.1, q.2) (reply_fails g.D.Disk.state g.D.Disk.images g.met.D.Disk.only_now is_out to n c.args.table (asker_of c.args.asker) c.args.kind c.args.status c.args.self.now x k c.answer.new.self
+    rw (q.1, q.2) (reply_fails g.D.Disk.state g.D.Disk.images g.met.D.Disk.only_now is_out to n c.args.table (asker_of c.args.asker) c.args.status c.args.self.now x k c.answer.new.self
     c.in_err-answer.ensures.same c.in_err-answer.field-0.0 c.in_err-answer.ensures.only (c.in_err-answer.ensures.over n.wire.world n.wire n.wire.packets n.sent k x.held.sent))
 
 pub returns : goal.returns
 returns g c is_out to n x k =
-    replies g.D.Disk.state g.D.Disk.images g.met.D.Disk.only_now is_out to n c.args.table (asker_of c.args.asker) c.args.kind c.args.status c.args.self.now x k c.answer.new.self
+    replies g.D.Disk.state g.D.Disk.images g.met.D.Disk.only_now is_out to n c.args.table (asker_of c.args.asker) c.args.status c.args.self.now x k c.answer.new.self
     c.in_ok-answer.ensures.same c.in_ok-lines.lines c.answer.new.lines c.in_ok-lines.ensures.lines (c.in_ok-answer.ensures.sent n.wire.world n.wire n.wire.packets n.sent k x.held.sent)

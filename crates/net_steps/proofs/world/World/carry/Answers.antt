@@ -23,4 +23,4 @@ returns-clause-done g c n v s k =
     let w = c.in_ok-carry_lines.ensures.walked n s.wire n.sent k.along (held_longer g.D.Disk.state n v s c.args.lines c.args.self.now k)
     (all_there g.D.Disk.state n v s c.args.lines c.args.self.now k) in
     walk_carried g.D.Disk.state n v s c.args.lines c.args.self.now k c.carry_lines.new.told c.carry_lines.new.self.network
-    (subst (λ (l : List TextLine). AreWalked n s.wire.packets n.sent (map line_of c.args.lines) c.carry_lines.new.self.network l c.carry_lines.new.told) c.new-told.ensures w)
+    (subst (λ (l : List TextLine). AreWalked n s.wire n.sent (map line_of c.args.lines) c.carry_lines.new.self.network l c.carry_lines.new.told) c.new-told.ensures w)

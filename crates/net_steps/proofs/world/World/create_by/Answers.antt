@@ -24,7 +24,7 @@ answer_alone-requires g c =
         nodes.Store c.args.store,
         k.0,
         k.1,
-        may_refuse g.D.Disk.state k.0 c.args.asked.now.table c.args.asker.client c.args.self.now k.1.held k.2.client 2,
+        may_refuse g.D.Disk.state k.0 c.args.asked.now.table c.args.asker.client c.args.self.now k.1.held k.2.client c.args.asker.kind,
       );
     }
 
@@ -56,15 +56,15 @@ returns-in-Dropped-clause-comes g c n x k =
     let is_out = (g.P.Depot.state c.args.depot.now).is_out in
     let m = c.args.asked.now in
     let a = asker_of c.args.asker in
-    let f = λ (lucks : Lucks). answering n m.table a 2 18 in
+    let f = λ (lucks : Lucks). answering n m.table a 18 in
     comes_as g.D.Disk.state g.D.Disk.images n (λ lucks. creates n c.args.store a m lucks c.args.state) f
     (λ lucks. ap (creates n c.args.store a m lucks) c.in-Dropped.is) c.answer_alone.result is_out c.args.self.now c.answer_alone.new.self
     (comes_by g.D.Disk.state g.D.Disk.images n f c.answer_alone.result is_out c.args.self.now c.answer_alone.new.self
-    (c.answer_alone.ensures is_out (nodes.Store c.args.store) n x (may_refuse g.D.Disk.state n m.table c.args.asker.client c.args.self.now x.held k.client 2)))
+    (c.answer_alone.ensures is_out (nodes.Store c.args.store) n x (may_refuse g.D.Disk.state n m.table c.args.asker.client c.args.self.now x.held k.client c.args.asker.kind)))
 
 pub returns-in-Dropped-clause-depot : goal.returns-in-Dropped-clause-depot
 returns-in-Dropped-clause-depot g c =
     let k = c.requires.here in
     counted_apart _ _ refl c.answer_alone.result
     (c.answer_alone.ensures (g.P.Depot.state c.args.depot.now).is_out (nodes.Store c.args.store) k.0 k.1
-    (may_refuse g.D.Disk.state k.0 c.args.asked.now.table c.args.asker.client c.args.self.now k.1.held k.2.client 2)).apart
+    (may_refuse g.D.Disk.state k.0 c.args.asked.now.table c.args.asker.client c.args.self.now k.1.held k.2.client c.args.asker.kind)).apart

@@ -21,7 +21,7 @@ answer_alone-requires g c =
         nodes.Store c.args.store,
         k.0,
         k.1,
-        may_refuse g.D.Disk.state k.0 c.args.asked.now.table c.args.asker.client c.args.self.now k.1.held k.2.client 2,
+        may_refuse g.D.Disk.state k.0 c.args.asked.now.table c.args.asker.client c.args.self.now k.1.held k.2.client c.args.asker.kind,
       );
     }
 
@@ -36,18 +36,18 @@ returns-then-not-is_declared-clause-comes g c n x k =
     let is_out = (g.P.Depot.state c.args.depot.now).is_out in
     let m = c.args.asked.now in
     let a = asker_of c.args.asker in
-    let f = λ (lucks : Lucks). answering n m.table a 2 18 in
+    let f = λ (lucks : Lucks). answering n m.table a 18 in
     comes_as g.D.Disk.state g.D.Disk.images n (λ lucks. creates n c.args.store a m lucks states.Draft) f
     (draft_other n c.args.store a m c.is_declared.result (c.is_declared.ensures n x.held) c.if-not-is_declared.true) c.answer_alone.result is_out c.args.self.now c.answer_alone.new.self
     (comes_by g.D.Disk.state g.D.Disk.images n f c.answer_alone.result is_out c.args.self.now c.answer_alone.new.self
-    (c.answer_alone.ensures is_out (nodes.Store c.args.store) n x (may_refuse g.D.Disk.state n m.table c.args.asker.client c.args.self.now x.held k.client 2)))
+    (c.answer_alone.ensures is_out (nodes.Store c.args.store) n x (may_refuse g.D.Disk.state n m.table c.args.asker.client c.args.self.now x.held k.client c.args.asker.kind)))
 
 pub returns-then-not-is_declared-clause-depot : goal.returns-then-not-is_declared-clause-depot
 returns-then-not-is_declared-clause-depot g c =
     let k = c.requires.here in
     counted_apart _ _ refl c.answer_alone.result
     (c.answer_alone.ensures (g.P.Depot.state c.args.depot.now).is_out (nodes.Store c.args.store) k.0 k.1
-    (may_refuse g.D.Disk.state k.0 c.args.asked.now.table c.args.asker.client c.args.self.now k.1.held k.2.client 2)).apart
+    (may_refuse g.D.Disk.state k.0 c.args.asked.now.table c.args.asker.client c.args.self.now k.1.held k.2.client c.args.asker.kind)).apart
 
 pub returns-clause-comes : goal.returns-clause-comes
 returns-clause-comes g c n x k =

@@ -26,7 +26,7 @@ answer_alone-requires g c =
         nodes.Store c.args.store,
         k.0,
         k.1,
-        may_refuse g.D.Disk.state k.0 c.args.table c.args.asker.client c.args.self.now k.1.held k.2.client 3,
+        may_refuse g.D.Disk.state k.0 c.args.table c.args.asker.client c.args.self.now k.1.held k.2.client c.args.asker.kind,
       );
     }
 
@@ -42,15 +42,15 @@ pub returns-in_default-clause-comes : goal.returns-in_default-clause-comes
 returns-in_default-clause-comes g c n m x k is =
     let is_out = (g.P.Depot.state c.args.depot.now).is_out in
     let a = asker_of c.args.asker in
-    let f = λ (lucks : Lucks). answering n c.args.table a 3 18 in
+    let f = λ (lucks : Lucks). answering n c.args.table a 18 in
     comes_as g.D.Disk.state g.D.Disk.images n (λ lucks. drops n c.args.store a m lucks c.args.state) f
     (drop_other n c.args.store a m c.args.table is c.args.state c.in_default.not-Live) c.answer_alone.result is_out c.args.self.now c.answer_alone.new.self
     (comes_by g.D.Disk.state g.D.Disk.images n f c.answer_alone.result is_out c.args.self.now c.answer_alone.new.self
-    (c.answer_alone.ensures is_out (nodes.Store c.args.store) n x (may_refuse g.D.Disk.state n c.args.table c.args.asker.client c.args.self.now x.held k.client 3)))
+    (c.answer_alone.ensures is_out (nodes.Store c.args.store) n x (may_refuse g.D.Disk.state n c.args.table c.args.asker.client c.args.self.now x.held k.client c.args.asker.kind)))
 
 pub returns-in_default-clause-depot : goal.returns-in_default-clause-depot
 returns-in_default-clause-depot g c =
     let k = c.requires.here in
     counted_apart _ _ refl c.answer_alone.result
     (c.answer_alone.ensures (g.P.Depot.state c.args.depot.now).is_out (nodes.Store c.args.store) k.0 k.1
-    (may_refuse g.D.Disk.state k.0 c.args.table c.args.asker.client c.args.self.now k.1.held k.2.client 3)).apart
+    (may_refuse g.D.Disk.state k.0 c.args.table c.args.asker.client c.args.self.now k.1.held k.2.client c.args.asker.kind)).apart

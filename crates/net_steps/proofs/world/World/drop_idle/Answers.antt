@@ -35,7 +35,7 @@ returns-in-Some-clause-comes g c n p x k from =
     comes_by g.D.Disk.state g.D.Disk.images n f _ is_out c.args.self.now c.args.self.now
     (still_delivers g.D.Disk.state g.D.Disk.images n g.met.D.Disk.only_now is_out c.args.self.now x.reached x.held x.out f no_lucks
     (facts.Refuses (facts.Busy (busy_version (hosted_at n.wire.world m.table)))) refl
-    (at_work_step n c.args.store m.table c.args.state k (to_drop n c.args.store p m no_lucks) (drops n c.args.store (record { client = m.client; to = p.from }) m no_lucks) (λ hosted. refl) w.0)
+    (at_work_step n c.args.store m.table c.args.state k (to_drop n c.args.store p m no_lucks) (drops n c.args.store (record { client = m.client; to = p.from; kind = 3 }) m no_lucks) (λ hosted. refl) w.0)
     _ w.1 tt)
 
 pub returns-in-None-clause-comes : goal.returns-in-None-clause-comes
@@ -44,5 +44,5 @@ returns-in-None-clause-comes g c n p x k from =
     let idle = no_work n.wire.world m.table _ (c.in_ok-found.ensures.lines n.wire x.held.wire) c.in-None.is in
     let asks = asks_here n c.args.store m.table c.args.state k g.D.Disk.state c.args.self.now x.held m.client c.requires.client in
     comes_as g.D.Disk.state g.D.Disk.images n (λ lucks. to_drop n c.args.store p m lucks (hosted_by n.wire.world c.args.store m.table))
-    (λ lucks. drops n c.args.store (record { client = m.client; to = c.args.from }) m lucks c.args.state) (idle_drop n c.args.store c.args.state p c.args.from from m k idle) c.drop_by.result
+    (λ lucks. drops n c.args.store (record { client = m.client; to = c.args.from; kind = 3 }) m lucks c.args.state) (idle_drop n c.args.store c.args.state p c.args.from from m k idle) c.drop_by.result
     (g.P.Depot.state c.drop_by.new.depot).is_out c.args.self.now c.drop_by.new.self (c.drop_by.ensures.comes n m x asks refl)

@@ -19,7 +19,7 @@ pub returns-clause-walked : goal.returns-clause-walked
 returns-clause-walked g c n v sent along has there =
     let may = subst (IsToFollow n v) (sym c.follows-next.ensures) (to_follow n v (fact_of c.args.fact) there) in
     on_ok_weaker c.follow.result
-    (fact_walked n v.packets sent (fact_of c.args.fact) c.requires.plain c.follow.new.self.network c.args.told.now c.push.new.self c.follow.new.told
+    (fact_walked n v sent (fact_of c.args.fact) c.requires.plain c.follow.new.self.network c.args.told.now c.push.new.self c.follow.new.told
     (ap (map line_of) c.in_ok-push.ensures.ok ∙ map-append line_of c.args.told.now _))
     (subst (λ (d : Due). OnOk c.follow.result (AreSent v.packets sent (sends_as n d) c.follow.new.self.network c.push.new.self c.follow.new.told))
     c.follows-next.ensures (c.follow.ensures.sent n v sent along may has))
@@ -27,5 +27,5 @@ returns-clause-walked g c n v sent along has there =
 pub returns-clause-over : goal.returns-clause-over
 returns-clause-over g c n v sent along has there =
     let may = subst (IsToFollow n v) (sym c.follows-next.ensures) (to_follow n v (fact_of c.args.fact) there) in
-    subst (λ (l : List Sent). IfErr c.follow.result (IsOverFault (sent ++ l))) (sym (sent_walk_is n v.packets sent (fact_of c.args.fact) c.requires.plain))
+    subst (λ (l : List Sent). IfErr c.follow.result (IsOverFault (sent ++ l))) (sym (sent_walk_is n v sent (fact_of c.args.fact) c.requires.plain))
     (subst (λ (d : Due). IfErr c.follow.result (IsOverFault (sent ++ sends_as n d))) c.follows-next.ensures (c.follow.ensures.over n v sent along may has))

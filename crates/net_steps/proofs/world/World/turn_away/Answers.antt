@@ -24,8 +24,8 @@ answer_alone-requires g c =
 pub returns-in-Some : goal.returns-in-Some
 returns-in-Some g c is_out to n p x client from =
     let a = c.in-Some.asked in
-    delivers_as g.D.Disk.state g.D.Disk.images n (λ lucks. turned_away n p c.args.asked) (λ lucks. answering n a.table (record { client = a.client; to = c.args.from }) a.kind 18)
-    (λ lucks. ap (turned_away n p) c.in-Some.is ∙ ap (λ (node : Node). answering n a.table (record { client = a.client; to = node }) a.kind 18) from)
+    delivers_as g.D.Disk.state g.D.Disk.images n (λ lucks. turned_away n p c.args.asked) (λ lucks. answering n a.table (record { client = a.client; to = c.args.from; kind = a.kind }) 18)
+    (λ lucks. ap (turned_away n p) c.in-Some.is ∙ ap (λ (node : Node). answering n a.table (record { client = a.client; to = node; kind = a.kind }) 18) from)
     c.answer_alone.result is_out c.args.self.now c.answer_alone.new.self
     (c.answer_alone.ensures is_out to n x (may_refuse g.D.Disk.state n a.table a.client c.args.self.now x.held (subst IsOfClient c.in-Some.is client) a.kind))
 

@@ -1,5 +1,5 @@
 -- Which change a packet tells of, and which gateways are told of it.
-use Rattle.std.proofs.Common.{◌≡◌, ◌≢◌, ℕ, Bool, true, false, List, [], ◌∷◌, ◌++◌, map, Option, Some, None, refl, sym, ◌∙◌, ap, subst}
+use Rattle.std.proofs.Common.{◌≡◌, ◌≢◌, ℕ, Bool, true, false, List, [], ◌∷◌, Option, Some, None, refl, sym, ◌∙◌, ap}
 use Rattle.std.specs.Prelude.{fold, option_map, slice_get, if◌then◌else◌}
 use Rattle.std.specs.Ordering.{nat_cmp}
 use Rattle.std.specs.BTreeSet.{insert_key}
@@ -16,7 +16,7 @@ use Rattle.message_parts.specs.Parts.{message_at, outcome_at}
 use Rattle.world_tables.specs.World.{World, Hosted, hosted_at, is_down, owner_of}
 use Rattle.wire_tables.specs.Wire.{PartPacket, part_name}
 use Rattle.part_network.specs.Packets.{read_of}
-use Rattle.gated_tables.specs.Net.{Sent, changes_by, changes_for, gates_for, gates_in}
+use Rattle.gated_tables.specs.Net.{changes_by, changes_for, gates_for, gates_in}
 use Rattle.store_node.specs.Sides.{listed}
 use Rattle.store_host.specs.Calls.{subs_at}
 use Rattle.node_steps.specs.Reads.{subs_up}

@@ -33,3 +33,4 @@ pub mod Created
 pub mod TurnedAway
 pub mod Owed
 pub mod Requested
+pub mod Notified

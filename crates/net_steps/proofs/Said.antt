@@ -17,7 +17,7 @@ use Rattle.message_parts.specs.Parts.{message_at}
 use Rattle.wire_tables.specs.Wire.{PartPacket, Wire, part_name}
 use Rattle.part_network.specs.Packets.{frame_length}
 use Rattle.gated_tables.specs.Devices.{stamped}
-use Rattle.gated_tables.specs.Net.{Net, Sent, passed_with, routed, sends_by, sent_lines, told_of}
+use Rattle.gated_tables.specs.Net.{Net, Sent, passed_with, routed, sends_by, sent_lines}
 use Rattle.gated_laws.specs.Carried.{is_sent}
 use Rattle.net_network.specs.Packets.{HasSent}
 use Rattle.net_network.specs.declared.network.Network.{Network}

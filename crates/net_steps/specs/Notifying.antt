@@ -1,6 +1,6 @@
 -- A client is told that tables have changed: it asks for the next change of each, one after the other.
 use Rattle.std.specs.Prelude.{◌≡◌, ◌≢◌, ℕ, suc, ◌+◌, ◌<◌, Bool, true, false, List, [], ◌∷◌, ◌++◌, length, map, Option, Some}
-use Rattle.std.specs.Prelude.{None, Result, IfOk, IfErr}
+use Rattle.std.specs.Prelude.{Result, IfOk, IfErr}
 use Rattle.std.specs.List.{flat_map}
 use Rattle.disk_trait.specs.Calls.{DiskState}
 use Rattle.table_model.specs.declared.event.Event.TheVariants as events
@@ -45,14 +45,11 @@ facts_in [] = []
 facts_in (AnswerLine answer ∷ lines) = facts_in lines
 facts_in (line ∷ lines) = line ∷ facts_in lines
 
+-- whether the last answer among them is that a disk has failed, or this where they have none
 abbrev pub fails_by : Bool → List Line → Bool
 fails_by failed [] = failed
 fails_by failed (AnswerLine answer ∷ lines) = fails_by (has_failed (Some answer)) lines
 fails_by failed (line ∷ lines) = fails_by failed lines
-
--- whether the last answer among them is that a disk has failed
-abbrev pub fails_in : List Line → Bool
-fails_in lines = fails_by false lines
 
 abbrev pub answer_by : Bool → Answer
 answer_by true = facts.Refuses facts.NoDevice

@@ -1,6 +1,5 @@
 //! The changes of tables: behind the answer that a write is accepted, gateways are told of its version.
-ghost use Rattle.std.specs.Prelude.{◌≡◌, ◌++◌, ◌∷◌, [], ℕ, List, fold, map, Some, slice_get, IfOk, IfErr, OnOk};
-ghost use Rattle.stab_base.specs.declared.node.Node.TheVariants as nodes;
+ghost use Rattle.std.specs.Prelude.{◌≡◌, ◌++◌, ◌∷◌, [], List, fold, map, Some, slice_get, IfOk, IfErr, OnOk};
 ghost use Rattle.wire_tables.specs.Wire.{PartPacket, Wire, part_name};
 ghost use Rattle.gated_tables.specs.Net.{Sent, change_at, changes_by, gates_for};
 ghost use Rattle.net_network.specs.Packets.{HasSent};

@@ -1,16 +1,17 @@
 //! A client is told that tables have changed, and asks for the next change of each.
-ghost use Rattle.std.specs.Prelude.{◌≡◌, ℕ, ◌≤◌, ◌++◌, ◌∷◌, [], List, Some, map, option_map, IfOk, IfErr, OnOk};
+ghost use Rattle.std.specs.Prelude.{◌≡◌, ◌≤◌, ◌++◌, ◌∷◌, [], List, Some, false, map, option_map, if◌then◌else◌, IfOk};
+ghost use Rattle.std.specs.Prelude.{IfErr, OnOk};
 ghost use Rattle.disk_trait.specs.Calls.{IsCounted};
 ghost use Rattle.stab_base.specs.declared.node.Node.TheVariants as nodes;
 ghost use Rattle.step_tables.specs.Facts.{AnswerLine};
 ghost use Rattle.step_tables.specs.Lines.{answer_of, line_of};
 ghost use Rattle.world_tables.specs.World.{client_at};
-ghost use Rattle.gated_tables.specs.Net.{Net, NetStep, Sent, agenda_in, changes_told, device_at, if_idle, is_told};
-ghost use Rattle.gated_tables.specs.Net.{notified, tables_told};
+ghost use Rattle.gated_tables.specs.Net.{Net, NetStep, Sent, agenda_in, changes_told, device_at, has_failed};
+ghost use Rattle.gated_tables.specs.Net.{if_idle, is_told, notified, tables_told};
 ghost use Rattle.node_steps.specs.declared.fault.WorldFault.TheVariants.{Depot as DepotFailed, Memory};
 ghost use Rattle.net_steps.specs.Delivering.{ComesTo, Delivers, IsLinkedIn, IsUpIn};
 ghost use Rattle.net_steps.specs.Devices.{device_of};
-ghost use Rattle.net_steps.specs.Notifying.{AsksOn, AsksOne, IsIdle, IsToAsk, StandsSo, answer_by, facts_in, fails_in};
+ghost use Rattle.net_steps.specs.Notifying.{AsksOn, AsksOne, IsIdle, IsToAsk, StandsSo, answer_by, facts_in, fails_by};
 ghost use Rattle.net_steps.specs.Notifying.{step_told};
 
 use crate::device::Device;
@@ -30,21 +31,28 @@ fn is_told(bits: u64, table: TableNo) -> bool
     (bits >> (table - 1)) % 2 == 1
 }
 
+fn add_if(tables: &mut Sequence<TableNo>, table: TableNo, told: bool) -> Result<(), AllocError>
+    ensures { OnOk result (tables.new ≡ tables.old ++ (if told then table ∷ [] else [])) }
+{
+    if told {
+        tables.push(table)?;
+    }
+    Ok(())
+}
+
 // By rising number.
 fn tables_told(alloc: Global, bits: u64) -> Result<Sequence<TableNo>, AllocError>
     ensures { IfOk result (λ tables. tables ≡ tables_told bits) }
 {
     let mut tables = Sequence::new(alloc);
     for table in 1..65 {
-        if is_told(bits, table) {
-            tables.push(table)?;
-        }
+        add_if(&mut tables, table, is_told(bits, table))?;
     }
     Ok(tables)
 }
 
 fn is_failure(answer: &Answer) -> bool
-    ensures { result ≡ fails_in (AnswerLine (answer_of answer.now) ∷ []) }
+    ensures { result ≡ has_failed (Some (answer_of answer.now)) }
 {
     match answer {
         Answer::Refused(Refusal::NoDevice) => true,
@@ -52,17 +60,28 @@ fn is_failure(answer: &Answer) -> bool
     }
 }
 
+// Adds a line that is no answer. Whether the last answer so far is that a disk has failed.
+fn add_line(line: TextLine, failed: bool, told: &mut Lines) -> Result<bool, AllocError>
+    ensures failed { IfOk result (λ now. now ≡ fails_by failed (line_of line ∷ [])) }
+    ensures lines { OnOk result (map line_of told.new ≡ map line_of told.old ++ facts_in (line_of line ∷ [])) }
+{
+    match line {
+        TextLine::Answer(answer) => Ok(is_failure(&answer)),
+        other => {
+            told.push(other)?;
+            Ok(failed)
+        }
+    }
+}
+
 // Adds what lines tell beside an answer. Whether the answer is that a disk has failed.
 fn add_told(lines: Lines, told: &mut Lines) -> Result<bool, AllocError>
-    ensures told { IfOk result (λ failed. failed ≡ fails_in (map line_of lines)) }
+    ensures failed { IfOk result (λ failed. failed ≡ fails_by false (map line_of lines)) }
     ensures lines { OnOk result (map line_of told.new ≡ map line_of told.old ++ facts_in (map line_of lines)) }
 {
     let mut failed = false;
     for line in lines.into_vec() {
-        match line {
-            TextLine::Answer(answer) => failed = is_failure(&answer),
-            other => told.push(other)?,
-        }
+        failed = add_line(line, failed, told)?;
     }
     Ok(failed)
 }
@@ -142,7 +161,10 @@ impl<D: Disk + Drop> World<D> {
     {
         let tables = tables_told(self.alloc, bitmap)?;
         let mut told = Sequence::new(self.alloc);
-        told.push(TextLine::Fact(Fact::Notified { client, bitmap }))?;
+        told.push(TextLine::Fact(Fact::Notified {
+            client,
+            tables: bitmap,
+        }))?;
         let failed = self.ask_each(depot, client, tables, &mut told)?;
         self.with_answer(failed, told)
     }

@@ -220,8 +220,11 @@ module _ {D : Type 0} (state : D → DiskState) (images : D → ℕ → List ℕ
       limits : (m : ℕ) (result : Result (List TextLine) WorldFault) → IsLimitedBy (SpendsAny (suc (suc m)) cut.world) result → IsLimitedBy (SpendsHere m n) result
       limits m (Ok lines) k = tt
       limits m (Err e) k = λ code count is. ⊎_elim (λ ten. inl ten)
-          (λ spent. inr (spent.0, inl (spends_up (suc (suc m)) (suc (suc (64 + m))) n.wire.world (omega arith)
-          (spends_same (suc (suc m)) n.wire.world cut.world (hosted_same c d.linked n.wire.world) (clients_same c d.linked n.wire.world) spent.1))))
+          (λ spent. inr (
+            spent.0,
+            inl (spends_up (suc (suc m)) (suc (suc (64 + m))) n.wire.world (omega arith)
+                (spends_same (suc (suc m)) n.wire.world cut.world (hosted_same c d.linked n.wire.world) (clients_same c d.linked n.wire.world) spent.1)),
+          ))
           (k code count is)
 
       dones : (result : Result (List TextLine) WorldFault) → IfOk result (λ lines. (lucks : Lucks) × IsBrought state images n cut packet lucks lines is_after mid next)

@@ -32,7 +32,7 @@ use Rattle.message_parts.specs.Parts.{part_of}
 use Rattle.part_network.specs.Packets.{bytes_of}
 use Rattle.gated_tables.specs.Devices.{Device, is_online}
 use Rattle.wire_tables.specs.Wire.{wire_step}
-use Rattle.gated_tables.specs.Net.{Net, NetStep, Sent, agenda_in, answered, answer_heard, answer_taken, asks_again, asks_session, busy_with, carried_on, cutting, device_at, if_idle, is_linked, lines_of, notified, of_session, restored, restoring, says_gone, says_made, sending, sent_lines, still, to_client, to_create, to_drop, to_store, with_device}
+use Rattle.gated_tables.specs.Net.{Net, NetStep, Sent, agenda_in, answered, answer_heard, answer_taken, asks_again, asks_session, busy_with, carried_on, changes_told, cutting, device_at, if_idle, is_linked, lines_of, notified, of_session, restored, restoring, says_gone, says_made, sending, sent_lines, still, to_client, to_create, to_drop, to_store, with_device}
 use Rattle.gated_laws.proofs.Reached.{kept_net}
 use Rattle.net_network.specs.Packets.{HasSent, net_bytes, whole_in, whole_of, unless_part}
 use Rattle.net_network.specs.Short.{IsShort}
@@ -46,12 +46,12 @@ use Rattle.net_steps.specs.Carrying.{AreSent, IsOverFault}
 use Rattle.net_steps.specs.Holds.{Holds, AreShort, IsShortSent}
 use Rattle.net_steps.specs.Steps.{IsMoved, IsDone, IsPast, HavePlansBelow, all_faults}
 use Rattle.net_steps.specs.Delivering.{IsUpIn, IsLinkedIn, IsComing, Delivers, made_heard, told_in, step_begun}
-use Rattle.net_steps.specs.Notifying.{heard_in}
+use Rattle.net_steps.specs.Notifying.{IsIdle, IsToAsk, heard_in}
 use Rattle.net_steps.specs.declared.session.Heard.{Heard}
 use Rattle.net_steps.specs.declared.session.Heard.TheVariants as heard
 use Rattle.net_steps.specs.declared.tables.Told.{Told}
 use Rattle.net_steps.specs.declared.tables.Told.TheVariants as tells
-use Rattle.net_steps.proofs.Moved.{still_moved, linked_moved}
+use Rattle.net_steps.proofs.Moved.{still_moved, linked_moved, wire_of_reached}
 use Rattle.net_steps.proofs.Routed.{bytes_grow, short_join, register_short}
 use Rattle.net_steps.proofs.Delivered.{memory_delivers, send_delivers, done_delivers, still_delivers}
 
@@ -197,6 +197,21 @@ linked_on n c m o e lucks = ap (λ (x : Bool). if x then answer_heard n c m luck
 pub linked_off : (n : Net) (c : ℕ) (m : OperationResponse) (o : Option Device) → is_linked n c o ≡ false → (lucks : Lucks)
     → answer_taken n c m lucks o ≡ still n (facts.Refuses facts.Offline)
 linked_off n c m o e lucks = ap (λ (x : Bool). if x then answer_heard n c m lucks o else still n (facts.Refuses facts.Offline)) e
+
+-- and whether it is told of changes
+pub told_on : (n : Net) (c bits : ℕ) (o : Option Device) → is_linked n c o ≡ true → (lucks : Lucks)
+    → notified n c bits lucks o ≡ if_idle n lucks (agenda_in (client_at n.wire.world c)) (changes_told n c bits lucks o)
+told_on n c bits o e lucks =
+    ap (λ (x : Bool). if x then if_idle n lucks (agenda_in (client_at n.wire.world c)) (changes_told n c bits lucks o) else still n (facts.Refuses facts.Offline)) e
+
+pub told_off : (n : Net) (c bits : ℕ) (o : Option Device) → is_linked n c o ≡ false → (lucks : Lucks) → notified n c bits lucks o ≡ still n (facts.Refuses facts.Offline)
+told_off n c bits o e lucks =
+    ap (λ (x : Bool). if x then if_idle n lucks (agenda_in (client_at n.wire.world c)) (changes_told n c bits lucks o) else still n (facts.Refuses facts.Offline)) e
+
+-- one that isn't at work may ask
+pub up_to_ask : {D : Type 0} (state : D → DiskState) (is_out : ℕ → Bool) (c : ℕ) (n : Net) (world : World D) → IsUpIn state is_out (nodes.Client c) n world → IsIdle n c
+    → IsToAsk state is_out c n world
+up_to_ask state is_out c n world x idle = record { reached = wire_of_reached n x.reached; held = x.held; out = x.out; idle = idle }
 
 -- whether an answer says that a table is gone, or made
 abbrev gone_step : Net → ℕ → OperationResponse → Lucks → NetStep

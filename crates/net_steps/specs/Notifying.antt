@@ -11,11 +11,12 @@ use Rattle.step_tables.specs.Facts.{Answer, Line, AnswerLine}
 use Rattle.step_tables.specs.Facts as facts
 use Rattle.step_tables.specs.Lines.{line_of}
 use Rattle.world_tables.specs.Faults.{is_fault_answer}
-use Rattle.world_tables.specs.World.{Lucks, client_at}
+use Rattle.world_tables.specs.World.{Lucks, client_at, client_tasks}
 use Rattle.wire_tables.specs.Wire.{wire_step}
+use Rattle.journal_host.specs.Moves.{has_work}
 use Rattle.part_network.specs.Packets.{most_bytes}
-use Rattle.gated_tables.specs.Net.{Net, NetOutbox, NetStep, Sent, agenda_in, asks_each, carried_on, changes_come}
-use Rattle.gated_tables.specs.Net.{has_failed, lines_from, lines_of, tables_told}
+use Rattle.gated_tables.specs.Net.{Net, NetOutbox, NetStep, Sent, asks_each, carried_on, changes_come, has_failed}
+use Rattle.gated_tables.specs.Net.{lines_from, lines_of, tables_told}
 use Rattle.net_network.specs.Packets.{net_bytes}
 use Rattle.node_steps.specs.declared.fault.WorldFault.{WorldFault}
 use Rattle.node_steps.specs.declared.fault.WorldFault.TheVariants.{Depot as DepotFailed, Limit as LimitPassed}
@@ -57,9 +58,9 @@ answer_by false = facts.Done
 
 -- ---- what is known
 
--- a client that is up has nothing to do
+-- a client has no write to do
 abbrev pub IsIdle : Net → ℕ → Type 0
-IsIdle n c = agenda_in (client_at n.wire.world c) ≡ Some []
+IsIdle n c = has_work (client_tasks (client_at n.wire.world c)) ≡ false
 
 -- The program's world holds the net, built events lead to its wire, and the client may ask.
 pub record IsToAsk {D : Type 0} (state : D → DiskState) (is_out : ℕ → Bool) (c : ℕ) (n : Net) (world : World D)

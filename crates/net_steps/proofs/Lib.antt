@@ -34,3 +34,5 @@ pub mod TurnedAway
 pub mod Owed
 pub mod Requested
 pub mod Notified
+pub mod Asked
+pub mod AskedLaw

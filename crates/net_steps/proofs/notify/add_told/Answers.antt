@@ -1,4 +1,4 @@
-use Rattle.std.proofs.Common.{List, map, sym, ◌∙◌, ap, subst}
+use Rattle.std.proofs.Common.{List, map, sym, ◌∙◌, subst}
 use Rattle.std.proofs.lemmas.List.{nil_from_length}
 use Rattle.table_model.specs.declared.line.TextLine.{TextLine}
 use Rattle.step_tables.specs.Lines.{line_of}

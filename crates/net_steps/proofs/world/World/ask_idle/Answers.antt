@@ -1,6 +1,5 @@
-use Rattle.std.proofs.Common.{Option, Some, None, sym, ◌∙◌, ap}
+use Rattle.std.proofs.Common.{Some, None, sym, ◌∙◌, ap}
 use Rattle.std.specs.Prelude.{option_map}
-use Rattle.gated_tables.specs.Devices.{Device}
 use Rattle.gated_tables.specs.Net.{changes_told, device_at}
 use Rattle.net_steps.specs.Devices.{device_of}
 use Rattle.net_steps.specs.Notifying.{step_told}

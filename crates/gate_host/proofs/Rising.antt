@@ -18,7 +18,7 @@ lower : (k q : ℕ) (ks : List ℕ) → nat_cmp k q ≡ Less → AllByRecursion 
 lower k q [] is a = tt
 lower k q (y ∷ ks) is a = (nat_cmp_total.trans k q y is a.0, lower k q ks is a.1)
 
-all_put : {V : Type 0} (P : ℕ → Type 0) (es : List (ℕ × V)) (k : ℕ) (v : V) → AllByRecursion P (keys_of es) → P k → AllByRecursion P (keys_of (insert_entry nat_cmp es k v))
+pub all_put : {V : Type 0} (P : ℕ → Type 0) (es : List (ℕ × V)) (k : ℕ) (v : V) → AllByRecursion P (keys_of es) → P k → AllByRecursion P (keys_of (insert_entry nat_cmp es k v))
 all_put P [] k v a p = (p, tt)
 all_put {V} P (e ∷ es) k v a p = go (nat_cmp k e.0) (all_put P es k v a.1 p)
   where
@@ -95,3 +95,35 @@ module _ {V Y : Type 0} where
       one : (q : ℕ) (o : Option V) → lookup (is_at (nat_cmp q)) es ≡ o → option_map (f q) o ≡ option_map (g q) o
       one q None is = refl
       one q (Some v) is = ap Some (same q v is)
+
+-- ---- keys
+
+abbrev bare : {V : Type 0} → List (ℕ × V) → List (ℕ × Bool)
+bare es = map (λ e. (e.0, true)) es
+
+bare_keys : {V : Type 0} (es : List (ℕ × V)) → keys_of (bare es) ≡ keys_of es
+bare_keys [] = refl
+bare_keys (e ∷ es) = ap (λ (ks : List ℕ). e.0 ∷ ks) (bare_keys es)
+
+bare_found : {V : Type 0} (es : List (ℕ × V)) (q : ℕ)
+    → lookup (is_at (nat_cmp q)) (bare es) ≡ option_map (λ v. true) (lookup (is_at (nat_cmp q)) es)
+bare_found [] q = refl
+bare_found (e ∷ es) q = go (is_at (nat_cmp q) e.0) (bare_found es q)
+  where
+    go : (b : Bool) → lookup (is_at (nat_cmp q)) (bare es) ≡ option_map (λ v. true) (lookup (is_at (nat_cmp q)) es)
+        → cond b (Some true) (lookup (is_at (nat_cmp q)) (bare es))
+        ≡ option_map (λ v. true) (cond b (Some e.1) (lookup (is_at (nat_cmp q)) es))
+    go true rest = refl
+    go false rest = rest
+
+-- lists in order that have the same keys
+pub same_keys : {V W : Type 0} (es : List (ℕ × V)) (fs : List (ℕ × W)) → IsStrictlySortedBy nat_cmp (keys_of es)
+    → IsStrictlySortedBy nat_cmp (keys_of fs) → ((q : ℕ) → option_map (λ v. true) (lookup (is_at (nat_cmp q)) es)
+    ≡ option_map (λ v. true) (lookup (is_at (nat_cmp q)) fs)) → keys_of es ≡ keys_of fs
+same_keys es fs s t same =
+    sym (bare_keys es)
+    ∙ (ap (λ (bs : List (ℕ × Bool)). keys_of bs)
+    (same_lists (bare es) (bare fs) (subst (λ (ks : List ℕ). IsStrictlySortedBy nat_cmp ks) (sym (bare_keys es)) s)
+    (subst (λ (ks : List ℕ). IsStrictlySortedBy nat_cmp ks) (sym (bare_keys fs)) t)
+    (λ q. bare_found es q ∙ (same q ∙ sym (bare_found fs q))))
+    ∙ bare_keys fs)

@@ -1,8 +1,10 @@
 -- What holds the gateways, behind a change of one of them and behind a declaration.
 use Rattle.std.proofs.Common.{◌≡◌, ℕ, ◌+◌, Bool, true, false, cond, true≢false, List, Option, Some, None, Result, Ok, Err, refl, sym, ap, ◌∙◌, subst, rules}
-use Rattle.std.specs.Prelude.{◌↔◌, is_some, IsSome, IsErrOf, if◌then◌else◌}
+use Rattle.std.specs.Prelude.{◌↔◌, option_map, is_some, IsSome, IsErrOf, if◌then◌else◌}
 use Rattle.std.specs.Ordering.{nat_cmp}
 use Rattle.std.specs.Cmp.{nat_cmp_total, unsigned_tied}
+use Rattle.std.specs.List.Sorted.{IsStrictlySortedBy}
+use Rattle.std.specs.Map.{keys_of}
 use Rattle.std.specs.BTreeMap as tree
 use Rattle.std.specs.BTreeMap.{is_at}
 use Rattle.std.proofs.lemmas.Bool.{eqb-true}
@@ -14,9 +16,10 @@ use Rattle.gateway_core.specs.State.{state_of, gathered, number_of, directory_of
 use Rattle.gateway_core.specs.declared.gateway.Gateway.{Gateway}
 use Rattle.gate_host.specs.declared.gates.Gates.{Gates}
 use Rattle.gate_host.specs.Moves.{directory_by, gate_in, put_gate, new_gate, added, with_gate, restarted, risen, with_start}
-use Rattle.gate_host.specs.Holds.{AreDeclared, IsGate, GateThere, HoldsGates, IsReplaced}
+use Rattle.gate_host.specs.Holds.{AreDeclared, AreOfClients, IsGate, GateThere, HoldsGates, IsReplaced}
+use Rattle.gate_host.proofs.Rising.{rising_put, same_keys}
 
-at_same : (k q : ℕ) → is_at (nat_cmp k) q ≡ true → k ≡ q
+pub at_same : (k q : ℕ) → is_at (nat_cmp k) q ≡ true → k ≡ q
 at_same k q h = eqb-true k q (sym (unsigned_tied k q) ∙ h)
 
 pub gate_there : (directory : Directory) (number : ℕ) (o : Option gate.Gateway) (it : Gateway) → GateThere directory number o (Some it)
@@ -81,13 +84,33 @@ module _ (stores : List ℕ) (schemas : List (ℕ × Schema)) (gates : List (ℕ
         one true is = subst (λ k. GateThere D k (gate_in gates k) (Some it)) (at_same number q is) (subst (λ (o : Option gate.Gateway). GateThere D number o (Some it)) (sym there) at)
         one false is = h.there q
 
+    put_clients : (state : gate.Gateway) → AreOfClients state.running → (q : ℕ) (found : gate.Gateway)
+        → gate_in (put_gate number state gates) q ≡ Some found → AreOfClients found.running
+    put_clients state k q found at =
+        go (is_at (nat_cmp number) q) (sym (lookup-insert nat_cmp nat_cmp_total gates number state q) ∙ at)
+      where
+        go : (b : Bool) → cond b (Some state) (gate_in gates q) ≡ Some found → AreOfClients found.running
+        go true is = subst (λ (g : gate.Gateway). AreOfClients g.running) (same_some state found is) k
+        go false is = h.clients q found is
+
     -- one gateway is another one
-    pub put_held : (state : gate.Gateway) → IsGate D number state it → HoldsGates stores schemas (put_gate number state gates) (record old { gates = new })
-    put_held state at = record { declared = h.declared; there = put_there state at }
+    pub put_held : (state : gate.Gateway) → AreOfClients state.running → IsGate D number state it
+        → HoldsGates stores schemas (put_gate number state gates) (record old { gates = new })
+    put_held state k at = record {
+      declared = h.declared;
+      there = put_there state at;
+      rising = rising_put gates number state h.rising;
+      clients = put_clients state k;
+    }
 
     -- or as it was
     pub same_held : (state : gate.Gateway) → gate_in gates number ≡ Some state → IsGate D number state it → HoldsGates stores schemas gates (record old { gates = new })
-    same_held state there at = record { declared = h.declared; there = same_there state there at }
+    same_held state there at = record {
+      declared = h.declared;
+      there = same_there state there at;
+      rising = h.rising;
+      clients = h.clients;
+    }
 
     -- or it has started, where it was down
     pub risen_held : (state : gate.Gateway) → gate_in gates number ≡ Some state → IsGate D number (restarted state) it
@@ -98,11 +121,11 @@ module _ (stores : List ℕ) (schemas : List (ℕ × Schema)) (gates : List (ℕ
         go : (b : Bool) → IsGate D number (if b then state else gate.started state (state.starts + 1)) it
             → HoldsGates stores schemas (if b then gates else put_gate number (gate.started state (state.starts + 1)) gates) (record old { gates = new })
         go true k = same_held state there k
-        go false k = put_held (gate.started state (state.starts + 1)) k
+        go false k = put_held (gate.started state (state.starts + 1)) tt k
 
     -- or it is new
     pub added_held : gate_in gates number ≡ None → IsGate D number new_gate it → HoldsGates stores schemas (with_gate number gates) (record old { gates = new })
-    added_held none at = subst (λ (o : Option gate.Gateway). HoldsGates stores schemas (added number o gates) (record old { gates = new })) (sym none) (put_held new_gate at)
+    added_held none at = subst (λ (o : Option gate.Gateway). HoldsGates stores schemas (added number o gates) (record old { gates = new })) (sym none) (put_held new_gate tt at)
 
 -- ---- another directory
 
@@ -121,7 +144,23 @@ moved_held stores others schemas more gates old new h d each = record {
   declared = d;
   there = λ q.
       moved_there (directory_by stores schemas) (directory_by others more) q (gate_in gates q) (tree.get nat_cmp old.gates q) (tree.get nat_cmp new.gates q) (h.there q) (each q);
+  rising = h.rising;
+  clients = h.clients;
 }
+
+-- which numbers gateways have
+pub has_gates : (stores : List ℕ) (schemas : List (ℕ × Schema)) (gates : List (ℕ × gate.Gateway)) (it : Gates)
+    → HoldsGates stores schemas gates it → IsStrictlySortedBy nat_cmp (keys_of it.gates.entries)
+    → keys_of it.gates.entries ≡ keys_of gates
+has_gates stores schemas gates it h rising =
+    same_keys it.gates.entries gates rising h.rising (λ q. go q (gate_in gates q) (tree.get nat_cmp it.gates q) (h.there q))
+  where
+    go : (q : ℕ) (o : Option gate.Gateway) (p : Option Gateway) → GateThere (directory_by stores schemas) q o p
+        → option_map (λ v. true) p ≡ option_map (λ v. true) o
+    go q None None k = refl
+    go q None (Some it) k = absurd k
+    go q (Some state) None k = absurd k
+    go q (Some state) (Some it) k = refl
 
 -- ---- one fault of two results
 

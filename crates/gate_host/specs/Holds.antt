@@ -1,5 +1,6 @@
 -- What holds the gateways of a world.
-use Rattle.std.specs.Prelude.{◌≡◌, ℕ, Bool, true, false, List, [], Option, Some, None, is_some}
+use Rattle.std.specs.Prelude.{◌≡◌, ℕ, ◌≤◌, Bool, true, false, List, [], Option, Some, None, is_some}
+use Rattle.std.specs.List.{AllByRecursion}
 use Rattle.std.specs.Ordering.{nat_cmp}
 use Rattle.std.specs.FinSet as set
 use Rattle.std.specs.BTreeMap as tree
@@ -7,7 +8,9 @@ use Rattle.std.specs.List.Sorted.{IsStrictlySortedBy}
 use Rattle.std.specs.Map.{keys_of}
 use Rattle.row_value.specs.declared.schema.Schema.{Schema}
 use Rattle.gate_tables.specs.Gate as gate
-use Rattle.gate_tables.specs.Gate.{Directory}
+use Rattle.table_model.specs.declared.message.Message.{Message}
+use Rattle.table_model.specs.declared.message.Message.TheVariants as messages
+use Rattle.gate_tables.specs.Gate.{Directory, Running}
 use Rattle.gateway_core.specs.declared.directory.NamedTable.{NamedTable}
 use Rattle.gateway_core.specs.declared.gateway.Gateway.{Gateway}
 use Rattle.gateway_core.specs.Directories.{last_named}
@@ -42,12 +45,30 @@ GateThere directory number None (Some it) = ⊥
 GateThere directory number (Some state) None = ⊥
 GateThere directory number (Some state) (Some it) = IsGate directory number state it
 
--- These are the declared Stores and tables, and the declared gateways, each with the directory that they give.
+-- a client's number
+abbrev pub IsClientNo : ℕ → Type 0
+IsClientNo c = (1 ≤ c) × (c ≤ 64)
+
+-- each session of a gateway is a client's
+abbrev pub AreOfClients : Option Running → Type 0
+AreOfClients None = Unit {0}
+AreOfClients (Some running) = AllByRecursion IsClientNo (keys_of running.sessions)
+
+-- These are the declared Stores and tables, and the declared gateways by rising number, each with the directory that
+-- they give.
 pub record HoldsGates (stores : List ℕ) (schemas : List (ℕ × Schema)) (gates : List (ℕ × gate.Gateway))
     (it : Gates) : Type 0 where
   pub declared : AreDeclared stores schemas it.ring it.tables.items
   pub there : (number : ℕ) → GateThere (directory_by stores schemas) number (gate_in gates number)
       (tree.get nat_cmp it.gates number)
+  pub rising : IsStrictlySortedBy nat_cmp (keys_of gates)
+  pub clients : (number : ℕ) (gateway : gate.Gateway) → gate_in gates number ≡ Some gateway
+      → AreOfClients gateway.running
+
+-- who asks for a session is a client
+abbrev pub IsOfClient : Message → Type 0
+IsOfClient (messages.RegisterDevice m) = IsClientNo m.client
+IsOfClient other = Unit {0}
 
 abbrev pub is_up_of : Option Gateway → Bool
 is_up_of None = false

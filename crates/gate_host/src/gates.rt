@@ -1,16 +1,17 @@
 ghost use Rattle.std.specs.Prelude.{◌≡◌, ◌↔◌, ◌∷◌, ℕ, List, [], Bool, true, Option, Some, is_some};
 ghost use Rattle.std.specs.Prelude.{IfOk, IfErr, OnOk, OnErr, IsErrOf};
 ghost use Rattle.std.specs.Ordering.{nat_cmp};
+ghost use Rattle.std.specs.Map.{keys_of};
 ghost use Rattle.std.specs.BTreeMap as tree;
 ghost use Rattle.row_value.specs.declared.schema.Schema.{Schema as ASchema};
 ghost use Rattle.gate_tables.specs.Gate.{Gateway as AGateway, Running, is_spent, ticked, tokens};
 ghost use Rattle.gateway_core.specs.declared.gate_fault.GateFault.TheVariants.{Spent};
 ghost use Rattle.gate_host.specs.Moves.{gate_in, is_up_in, up, down, most_starts};
 ghost use Rattle.gate_host.specs.Moves.{with_schema, with_gate, with_crash, with_start, done_by, with_done};
-ghost use Rattle.gate_host.specs.Holds.{HoldsGates, is_up_at};
+ghost use Rattle.gate_host.specs.Holds.{HoldsGates, IsOfClient, is_up_at};
 
 use crate::one::{start, take, tick};
-use crate::placing::{has_table, make_gate, named, place_all};
+use crate::placing::{has_table, make_gate, named, numbers_of, place_all};
 use gateway_core::{GateFault, Gateway, NamedTable, Sent};
 use ring_map::Ring;
 use row_value::Schema;
@@ -131,8 +132,9 @@ impl Gates {
         requires { is_up_at self.old gate ≡ true }
         ensures held { (stores : List ℕ) (schemas : List (ℕ × ASchema)) (gates : List (ℕ × AGateway)) (starts : ℕ)
             (running : Running) → HoldsGates stores schemas gates self.old
-            → gate_in gates gate ≡ Some (up starts running) → OnOk result (HoldsGates stores schemas
-            (with_done gate starts (done_by stores schemas gate starts running from message.now) gates) self.new) }
+            → gate_in gates gate ≡ Some (up starts running) → IsOfClient message.now
+            → OnOk result (HoldsGates stores schemas (with_done gate starts
+            (done_by stores schemas gate starts running from message.now) gates) self.new) }
         ensures sent { (stores : List ℕ) (schemas : List (ℕ × ASchema)) (gates : List (ℕ × AGateway)) (starts : ℕ)
             (running : Running) → HoldsGates stores schemas gates self.old
             → gate_in gates gate ≡ Some (up starts running) → IfOk result (λ sent.
@@ -148,6 +150,14 @@ impl Gates {
             Some(gateway) => take(gateway, from, message),
             None => unreachable!(),
         }
+    }
+
+    /// The numbers of the declared gateways, by rising number.
+    pub fn numbers(&self) -> Result<Sequence<GateNo>, AllocError>
+        ensures { (stores : List ℕ) (schemas : List (ℕ × ASchema)) (gates : List (ℕ × AGateway))
+            → HoldsGates stores schemas gates self.now → IfOk result (λ numbers. numbers ≡ keys_of gates) }
+    {
+        numbers_of(self.alloc, &self.gates)
     }
 
     /// A tick at a gateway that is up: each timer counts, and what is sent to the clients whose timers fire, in order.

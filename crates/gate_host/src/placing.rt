@@ -1,6 +1,7 @@
 //! The directory of the declared Stores and tables, and gateways that get it.
 ghost use Rattle.std.specs.Prelude.{◌≡◌, ◌==◌, ℕ, List, IfOk, OnOk};
 ghost use Rattle.std.specs.List.{list_any};
+ghost use Rattle.std.specs.List.Sorted.{IsStrictlySortedBy};
 ghost use Rattle.std.specs.Ordering.{nat_cmp};
 ghost use Rattle.std.specs.Map.{keys_of};
 ghost use Rattle.std.specs.BTreeMap as tree;
@@ -58,11 +59,13 @@ pub(crate) fn make_gate(
     Gateway::new(alloc, number, directory)
 }
 
-fn numbers_of(
+/// The gateways' numbers, by rising number.
+pub(crate) fn numbers_of(
     alloc: Global,
     gates: &BTreeMap<GateNo, Gateway>,
 ) -> Result<Sequence<GateNo>, AllocError>
-    ensures { IfOk result (λ numbers. numbers ≡ keys_of gates.now.entries) }
+    ensures numbers { IfOk result (λ numbers. numbers ≡ keys_of gates.now.entries) }
+    ensures rising { IfOk result (IsStrictlySortedBy nat_cmp) }
 {
     let mut numbers = Sequence::new(alloc);
     for (number, _) in gates.iter() {

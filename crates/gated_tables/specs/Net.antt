@@ -388,7 +388,7 @@ abbrev pub changes_told : Net → ℕ → ℕ → Lucks → Option Device → Ne
 changes_told n c bits lucks None = asks_each c (tables_told bits) lucks (changes_come n c bits)
 changes_told n c bits lucks (Some d) =
     let s : NetStep = asks_each c (tables_told bits) lucks
-        (changes_come (record n { wire = cutting c d.linked n.wire }) c bits) in
+    (changes_come (record n { wire = cutting c d.linked n.wire }) c bits) in
     record s { net = cut_by c d s.net }
 
 abbrev pub notified : Net → ℕ → ℕ → Lucks → Option Device → NetStep

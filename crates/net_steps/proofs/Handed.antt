@@ -24,7 +24,7 @@ use Rattle.gateway_core.specs.declared.gate_fault.GateFault.TheVariants as fault
 use Rattle.gated_tables.specs.Net.{Net, NetStep, Sent, net_step, lines_of, sent_lines, directory_of, delivered_to, delivered, to_gate, gate_at}
 use Rattle.gate_host.specs.declared.gates.Gates.{Gates}
 use Rattle.gate_host.specs.Moves.{up, done_by, with_done}
-use Rattle.gate_host.specs.Holds.{HoldsGates, is_up_at}
+use Rattle.gate_host.specs.Holds.{HoldsGates, IsOfClient, is_up_at}
 use Rattle.net_network.specs.declared.network.Network.{Network}
 use Rattle.net_network.specs.declared.packet.Way.{Way}
 use Rattle.net_network.specs.Packets.{HasSent, IsWayOf, IsWayAt}
@@ -36,7 +36,7 @@ use Rattle.net_steps.specs.Holds.{Holds, IsAt, IsShortSent, AreShort}
 use Rattle.net_steps.specs.Carrying.{IsOverFault}
 use Rattle.net_steps.specs.Handing.{GoesOn, AllGoOn, AreShortSends, all_from, HasGone, spent_of, IsToTake, done_at, step_at, IsDrawn}
 use Rattle.net_steps.specs.Alone.{Promises}
-use Rattle.net_steps.proofs.Gateways.{comes_on, all_short, sends_on}
+use Rattle.net_steps.proofs.Gateways.{all_short, comes_on, of_client, sends_on}
 use Rattle.net_steps.proofs.Directories.{directory_is, up_there, up_node}
 use Rattle.net_steps.proofs.InTurn.{few_more}
 use Rattle.net_steps.proofs.Promised.{code_of, memory_alone, is_eleven, stepped, passed, plans_alone}
@@ -44,11 +44,11 @@ use Rattle.net_steps.proofs.Deeded.{unless_up}
 
 -- ---- short messages
 
-short_join : (xs ys : List Sent) → AreShort xs → AreShort ys → AreShort (xs ++ ys)
+pub short_join : (xs ys : List Sent) → AreShort xs → AreShort ys → AreShort (xs ++ ys)
 short_join [] ys a b = b
 short_join (x ∷ xs) ys a b = (a.0, short_join xs ys a.1 b)
 
-short_from : (from : Node) (sends : Sends) → AreShortSends sends → AreShort (all_from from sends)
+pub short_from : (from : Node) (sends : Sends) → AreShortSends sends → AreShort (all_from from sends)
 short_from from [] k = tt
 short_from from (send ∷ sends) k = (k.0, short_from from sends k.1)
 
@@ -116,7 +116,11 @@ module _ {D : Type 0} (state : D → DiskState) (n : Net) (gate : ℕ) (way : Wa
   done_is = ap (λ (directory : Directory). taken directory gate x.starts x.running way.from message) (directory_is n.wire.world x.held.gates.declared.rising)
 
   sends_are : AllGoOn n.wire.packets way.part d.sends
-  sends_are = sends_on n.wire.packets way.part (directory_of n.wire.world) gate x.starts x.running way.from message x.comes
+  sends_are = sends_on n.wire.packets way.part (directory_of n.wire.world) gate x.starts x.running
+      (x.held.gates.clients gate (up x.starts x.running) x.at) way.from message x.comes
+
+  pub from_client : IsOfClient message
+  from_client = of_client n.wire.packets way.part message x.comes
 
   module _ (sends : Sends) (is : sends ≡ told.sends) where
     sent_is : sends ≡ d.sends

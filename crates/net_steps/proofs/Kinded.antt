@@ -6,6 +6,7 @@ use Rattle.disk_trait.specs.Image.{IsImage}
 use Rattle.stab_base.specs.declared.node.Node.TheVariants as nodes
 use Rattle.table_model.specs.declared.event.Event.{Event}
 use Rattle.table_model.specs.declared.event.Event.TheVariants as events
+use Rattle.table_model.specs.declared.event.NetEvent.TheVariants as nets
 use Rattle.table_model.specs.declared.line.TextLine.{TextLine}
 use Rattle.world_tables.specs.Sound.{is_declaration}
 use Rattle.world_tables.specs.Turns.{Happening}
@@ -28,8 +29,11 @@ use Rattle.net_steps.specs.declared.kinds.Kind.TheVariants as kinds
 use Rattle.net_steps.specs.declared.world.World.{World}
 use Rattle.net_steps.specs.Alone.{Promises}
 use Rattle.net_steps.specs.Calls.{Comes, Overruns, IsLimited, Leaves, IsCarriedOn}
-use Rattle.net_steps.specs.Holds.{IsAt}
-use Rattle.net_steps.specs.Kinds.{kind_of}
+use Rattle.net_steps.specs.Holds.{IsAt, IsFramedEvent}
+use Rattle.net_steps.specs.Kinds.{kind_of, want_of}
+use Rattle.net_steps.specs.Requesting.{HasPeriod}
+use Rattle.net_steps.specs.declared.kinds.Wanted.{Wanted}
+use Rattle.net_steps.specs.declared.kinds.Wanted.TheVariants as wanted
 use Rattle.net_steps.specs.Sounds.{GoesOnSound}
 use Rattle.net_steps.specs.Steps.{HavePlansBelow, may_begin}
 use Rattle.net_steps.proofs.Promised.{answers}
@@ -49,6 +53,10 @@ delivers (events.Create (nodes.Gate k) table) number e = absurd cc
 delivers (events.Drop (nodes.Client d) table) number e = absurd cc
 delivers (events.Drop (nodes.Store k) table) number e = absurd cc
 delivers (events.Drop (nodes.Gate k) table) number e = absurd cc
+delivers (events.Net (nets.Subscribe d t p q)) number e = absurd cc
+delivers (events.Net (nets.Unsubscribe d t)) number e = absurd cc
+delivers (events.Net (nets.WriteSync d t p q)) number e = absurd cc
+delivers (events.Net nets.Tick) number e = absurd cc
 delivers other number e = absurd cc
 
 pub links : (event : Event) (c : ℕ) (up : Bool) → kind_of event ≡ kinds.Link c up → event ≡ events.Link c up
@@ -66,6 +74,10 @@ links (events.Create (nodes.Gate k) table) c up e = absurd cc
 links (events.Drop (nodes.Client d) table) c up e = absurd cc
 links (events.Drop (nodes.Store k) table) c up e = absurd cc
 links (events.Drop (nodes.Gate k) table) c up e = absurd cc
+links (events.Net (nets.Subscribe d t p q)) c up e = absurd cc
+links (events.Net (nets.Unsubscribe d t)) c up e = absurd cc
+links (events.Net (nets.WriteSync d t p q)) c up e = absurd cc
+links (events.Net nets.Tick) c up e = absurd cc
 links other c up e = absurd cc
 
 pub wakes : (event : Event) (c : ℕ) → kind_of event ≡ kinds.Wake c → event ≡ events.Start (nodes.Client c)
@@ -82,6 +94,10 @@ wakes (events.Create (nodes.Gate k) table) c e = absurd cc
 wakes (events.Drop (nodes.Client d) table) c e = absurd cc
 wakes (events.Drop (nodes.Store k) table) c e = absurd cc
 wakes (events.Drop (nodes.Gate k) table) c e = absurd cc
+wakes (events.Net (nets.Subscribe d t p q)) c e = absurd cc
+wakes (events.Net (nets.Unsubscribe d t)) c e = absurd cc
+wakes (events.Net (nets.WriteSync d t p q)) c e = absurd cc
+wakes (events.Net nets.Tick) c e = absurd cc
 wakes other c e = absurd cc
 
 pub creates : (event : Event) (c table : ℕ) → kind_of event ≡ kinds.Create c table → event ≡ events.Create (nodes.Client c) table
@@ -98,6 +114,10 @@ creates (events.WorkAll (nodes.Gate g)) c table e = absurd cc
 creates (events.Crash (nodes.Gate g) calls pick) c table e = absurd cc
 creates (events.Start (nodes.Gate g)) c table e = absurd cc
 creates (events.Start (nodes.Client d)) c table e = absurd cc
+creates (events.Net (nets.Subscribe d t p q)) c table e = absurd cc
+creates (events.Net (nets.Unsubscribe d t)) c table e = absurd cc
+creates (events.Net (nets.WriteSync d t p q)) c table e = absurd cc
+creates (events.Net nets.Tick) c table e = absurd cc
 creates other c table e = absurd cc
 
 pub drops : (event : Event) (c table : ℕ) → kind_of event ≡ kinds.Drop c table → event ≡ events.Drop (nodes.Client c) table
@@ -114,9 +134,62 @@ drops (events.WorkAll (nodes.Gate g)) c table e = absurd cc
 drops (events.Crash (nodes.Gate g) calls pick) c table e = absurd cc
 drops (events.Start (nodes.Gate g)) c table e = absurd cc
 drops (events.Start (nodes.Client d)) c table e = absurd cc
+drops (events.Net (nets.Subscribe d t p q)) c table e = absurd cc
+drops (events.Net (nets.Unsubscribe d t)) c table e = absurd cc
+drops (events.Net (nets.WriteSync d t p q)) c table e = absurd cc
+drops (events.Net nets.Tick) c table e = absurd cc
 drops other c table e = absurd cc
 
--- what is asked of any other node does nothing
+pub wants : (event : Event) (c table : ℕ) (w : Wanted) → kind_of event ≡ kinds.Want c table w
+    → event ≡ events.Net (want_of c table w)
+wants (events.Net (nets.Subscribe d t p q)) c table (wanted.Changes period tolerance) e = cc
+wants (events.Net (nets.Subscribe d t p q)) c table wanted.Nothing e = absurd cc
+wants (events.Net (nets.Unsubscribe d t)) c table (wanted.Changes period tolerance) e = absurd cc
+wants (events.Net (nets.Unsubscribe d t)) c table wanted.Nothing e = cc
+wants (events.Net (nets.WriteSync d t p q)) c table w e = absurd cc
+wants (events.Net nets.Tick) c table w e = absurd cc
+wants (events.Hold (nodes.Gate g)) c table w e = absurd cc
+wants (events.Free (nodes.Gate g)) c table w e = absurd cc
+wants (events.Work (nodes.Gate g)) c table w e = absurd cc
+wants (events.WorkAll (nodes.Gate g)) c table w e = absurd cc
+wants (events.Crash (nodes.Gate g) calls pick) c table w e = absurd cc
+wants (events.Start (nodes.Gate g)) c table w e = absurd cc
+wants (events.Start (nodes.Client d)) c table w e = absurd cc
+wants (events.Create (nodes.Client d) t) c table w e = absurd cc
+wants (events.Create (nodes.Store k) t) c table w e = absurd cc
+wants (events.Create (nodes.Gate k) t) c table w e = absurd cc
+wants (events.Drop (nodes.Client d) t) c table w e = absurd cc
+wants (events.Drop (nodes.Store k) t) c table w e = absurd cc
+wants (events.Drop (nodes.Gate k) t) c table w e = absurd cc
+wants other c table w e = absurd cc
+
+pub is_tick : (event : Event) → kind_of event ≡ kinds.Tick → event ≡ events.Net nets.Tick
+is_tick (events.Net (nets.Subscribe d t p q)) e = absurd cc
+is_tick (events.Net (nets.Unsubscribe d t)) e = absurd cc
+is_tick (events.Net (nets.WriteSync d t p q)) e = absurd cc
+is_tick (events.Net nets.Tick) e = refl
+is_tick (events.Hold (nodes.Gate g)) e = absurd cc
+is_tick (events.Free (nodes.Gate g)) e = absurd cc
+is_tick (events.Work (nodes.Gate g)) e = absurd cc
+is_tick (events.WorkAll (nodes.Gate g)) e = absurd cc
+is_tick (events.Crash (nodes.Gate g) calls pick) e = absurd cc
+is_tick (events.Start (nodes.Gate g)) e = absurd cc
+is_tick (events.Start (nodes.Client d)) e = absurd cc
+is_tick (events.Create (nodes.Client d) t) e = absurd cc
+is_tick (events.Create (nodes.Store k) t) e = absurd cc
+is_tick (events.Create (nodes.Gate k) t) e = absurd cc
+is_tick (events.Drop (nodes.Client d) t) e = absurd cc
+is_tick (events.Drop (nodes.Store k) t) e = absurd cc
+is_tick (events.Drop (nodes.Gate k) t) e = absurd cc
+is_tick other e = absurd cc
+
+-- who subscribes names a period
+pub wants_period : (event : Event) (c table : ℕ) (w : Wanted) → event ≡ events.Net (want_of c table w)
+    → IsFramedEvent event → HasPeriod w
+wants_period event c table (wanted.Changes period tolerance) is framed = subst IsFramedEvent is framed
+wants_period event c table wanted.Nothing is framed = tt
+
+-- what is asked of any other node does nothing, nor what does nothing yet
 pub record IsAside (n : Net) (event : Event) : Type 0 where
   pub step : net_step n event no_lucks ≡ still n facts.Done
   pub fault : is_net_fault n event no_lucks ≡ false
@@ -135,6 +208,10 @@ aside n (events.WorkAll (nodes.Gate g)) e = absurd cc
 aside n (events.Crash (nodes.Gate g) calls pick) e = absurd cc
 aside n (events.Start (nodes.Gate g)) e = absurd cc
 aside n (events.Start (nodes.Client d)) e = absurd cc
+aside n (events.Net (nets.Subscribe d t p q)) e = absurd cc
+aside n (events.Net (nets.Unsubscribe d t)) e = absurd cc
+aside n (events.Net (nets.WriteSync d t p q)) e = record { step = refl; fault = refl }
+aside n (events.Net nets.Tick) e = absurd cc
 aside n other e = absurd cc
 
 pub aside_promises : {D : Type 0} (state : D → DiskState) (images : D → ℕ → List ℕ → Type 0)
@@ -168,6 +245,10 @@ carries_on n (events.Free (nodes.Gate number)) e = absurd cc
 carries_on n (events.Work (nodes.Gate number)) e = absurd cc
 carries_on n (events.WorkAll (nodes.Gate number)) e = absurd cc
 carries_on n (events.Crash (nodes.Gate number) calls pick) e = absurd cc
+carries_on n (events.Net (nets.Subscribe d t p q)) e = absurd cc
+carries_on n (events.Net (nets.Unsubscribe d t)) e = absurd cc
+carries_on n (events.Net (nets.WriteSync d t p q)) e = absurd cc
+carries_on n (events.Net nets.Tick) e = absurd cc
 carries_on n other e = record { step = λ lucks. refl; fault = λ lucks. refl; spends = λ m k. k; plain = refl }
 
 -- ---- a run with one event more

@@ -17,6 +17,7 @@ pub mod Changed
 pub mod Brought
 pub mod Linking
 pub mod Delivered
+pub mod Restored
 pub mod Sessions
 pub mod Coming
 pub mod Passing
@@ -36,3 +37,4 @@ pub mod Requested
 pub mod Notified
 pub mod Asked
 pub mod AskedLaw
+pub mod Ticked

@@ -1,4 +1,4 @@
--- A client asks for a table to be made or dropped: what it comes to, and which event it is.
+-- A client asks for a table to be made or dropped, or for a subscription to it: what it comes to, and which event it is.
 use Rattle.std.proofs.Common.{◌≡◌, inl, ⊎_elim, ℕ, suc, ◌+◌, ◌<◌, Bool, true, false, List, [], ◌∷◌, ◌++◌, map, Option, Some, None, Result, Ok, Err, refl, sym, ◌∙◌, ap, subst, arith, true≢false}
 use Rattle.std.specs.Prelude.{is_some, not, IfOk, IfErr, if◌then◌else◌}
 use Rattle.disk_trait.specs.Calls.{DiskState}
@@ -22,6 +22,7 @@ use Rattle.world_tables.specs.Faults.{is_failure, is_fault_answer}
 use Rattle.world_tables.specs.World.{World as AWorld, Lucks, no_lucks, client_at, client_tasks, first_luck, is_client_down, is_cut, is_fault, schema_at}
 use Rattle.wire_tables.specs.Wire.{Wire, WireStep, is_client_up, wire_step}
 use Rattle.gated_tables.specs.Faults.{is_net_fault}
+use Rattle.gated_tables.specs.Net.{asks_gate, to_subscribe, token_with}
 use Rattle.gated_tables.specs.Net.{Net, NetStep, Sent, asks_create, asks_drop, asks_for, carried_on, device_at, if_read, is_open, net_step, refused, still, to_ask, to_end, to_give, unless_away, way_to}
 use Rattle.gated_laws.proofs.Reached.{before_reached}
 use Rattle.journal_host.specs.Calls.{has_table, if_open}
@@ -42,7 +43,10 @@ use Rattle.net_steps.specs.Alone.{Promises}
 use Rattle.net_steps.specs.Carrying.{AreSent, IsCarried, IsOverFault}
 use Rattle.net_steps.specs.Delivering.{IsUpIn}
 use Rattle.net_steps.specs.Holds.{Holds, IsAt}
-use Rattle.net_steps.specs.Requesting.{AsksHere, IsAway}
+use Rattle.net_steps.specs.Kinds.{want_of}
+use Rattle.net_steps.specs.Requesting.{AsksHere, HasPeriod, IsAway, wanting}
+use Rattle.net_steps.specs.declared.kinds.Wanted.{Wanted}
+use Rattle.net_steps.specs.declared.kinds.Wanted.TheVariants as wanted
 use Rattle.net_steps.specs.Steps.{IsDone, IsMoved, IsPast, HavePlansBelow, Spends, all_faults, may_begin}
 use Rattle.net_steps.proofs.Carried.{asked_stay, carried_held, gates_stay, wire_of}
 use Rattle.net_steps.proofs.Delivered.{never_past}
@@ -238,6 +242,50 @@ module _ (n : Net) (c table : ℕ) (lucks : Lucks) where
         go calls.Done e = absurd (true≢false (sym e))
         go calls.FailedBefore e = refl
         go calls.FailedAfter e = refl
+
+-- ---- a client asks its gateway
+
+pub want_short : {D : Type 0} (state : D → DiskState) (n : Net) (world : World D) → Holds state n world
+    → (c table token : ℕ) (w : Wanted) → is_some (client_at n.wire.world c) ≡ true → HasPeriod w
+    → IsShort (wanting c table w token)
+want_short state n world h c table token (wanted.Changes period tolerance) there least =
+    let is = there_client state n world h c there in (record { least = is.least; most = is.most }, least)
+want_short state n world h c table token wanted.Nothing there least =
+    let is = there_client state n world h c there in record { least = is.least; most = is.most }
+
+module _ (n : Net) (c table : ℕ) (w : Wanted) (lucks : Lucks) where
+  abbrev message : ℕ → Message
+  message token = wanting c table w token
+
+  want_is : net_step n (events.Net (want_of c table w)) lucks
+      ≡ to_subscribe n c lucks (λ token. wanting c table w token) (client_at n.wire.world c)
+  want_is = go w
+    where
+      go : (x : Wanted) → net_step n (events.Net (want_of c table x)) lucks
+          ≡ to_subscribe n c lucks (λ token. wanting c table x token) (client_at n.wire.world c)
+      go (wanted.Changes period tolerance) = refl
+      go wanted.Nothing = refl
+
+  -- a client that isn't there
+  pub want_absent : client_at n.wire.world c ≡ None
+      → net_step n (events.Net (want_of c table w)) lucks ≡ still n (facts.Refuses facts.NoTable)
+  want_absent at = want_is ∙ ap (to_subscribe n c lucks (λ token. wanting c table w token)) at
+
+  module _ (node : Client) (at : client_at n.wire.world c ≡ Some node) where
+    abbrev asking_gate : NetStep
+    asking_gate = asks_gate n c lucks node (wanting c table w (token_with (device_at n c))) (device_at n c)
+
+    -- one that is down
+    pub want_down : is_client_down (client_at n.wire.world c) ≡ true
+        → net_step n (events.Net (want_of c table w)) lucks ≡ still n (facts.Refuses (facts.NodeDown (nodes.Client c)))
+    want_down down = want_is ∙ (ap (to_subscribe n c lucks (λ token. wanting c table w token)) at
+        ∙ ap (λ (b : Bool). if b then refused n (facts.NodeDown (nodes.Client c)) else asking_gate) down)
+
+    -- one that is up
+    pub want_up : is_client_down (client_at n.wire.world c) ≡ false
+        → net_step n (events.Net (want_of c table w)) lucks ≡ asking_gate
+    want_up up = want_is ∙ (ap (to_subscribe n c lucks (λ token. wanting c table w token)) at
+        ∙ ap (λ (b : Bool). if b then refused n (facts.NodeDown (nodes.Client c)) else asking_gate) up)
 
 -- whether it has the table opened
 opened_same : (o : Option TableDisk) → is_some (if_open o) ≡ is_open o

@@ -32,7 +32,7 @@ use Rattle.message_parts.specs.Parts.{part_of}
 use Rattle.part_network.specs.Packets.{bytes_of}
 use Rattle.gated_tables.specs.Devices.{Device, is_online}
 use Rattle.wire_tables.specs.Wire.{wire_step}
-use Rattle.gated_tables.specs.Net.{Net, NetStep, Sent, agenda_in, answered, answer_heard, answer_taken, asks_again, asks_session, busy_with, carried_on, changes_told, cutting, device_at, if_idle, is_linked, lines_of, notified, of_session, restored, restoring, says_gone, says_made, sending, sent_lines, still, to_client, to_create, to_drop, to_store, with_device}
+use Rattle.gated_tables.specs.Net.{Net, NetStep, Sent, agenda_in, answered, answer_heard, answer_taken, asks_again, asks_session, busy_with, carried_on, changes_told, cutting, device_at, if_idle, is_linked, lines_of, notified, of_session, restored, restoring, says_gone, says_made, sending, sent_lines, still, to_client, to_create, to_drop, to_save, to_store, with_device}
 use Rattle.gated_laws.proofs.Reached.{kept_net}
 use Rattle.net_network.specs.Packets.{HasSent, net_bytes, whole_in, whole_of, unless_part}
 use Rattle.net_network.specs.Short.{IsShort}
@@ -54,6 +54,7 @@ use Rattle.net_steps.specs.declared.tables.Told.TheVariants as tells
 use Rattle.net_steps.proofs.Moved.{still_moved, linked_moved, wire_of_reached}
 use Rattle.net_steps.proofs.Routed.{bytes_grow, short_join, register_short}
 use Rattle.net_steps.proofs.Delivered.{memory_delivers, send_delivers, done_delivers, still_delivers}
+use Rattle.net_steps.proofs.Restored.{few_kept}
 
 -- ---- what is sent beside the wire
 
@@ -276,6 +277,7 @@ whole_there o one at none = ap whole_in at ∙ whole_part one none
 abbrev pub told_step : Net → ℕ → Sent → Lucks → Told → NetStep
 told_step n store p lucks (tells.Create m) = to_create n store p m lucks (hosted_by n.wire.world store m.table)
 told_step n store p lucks (tells.Drop m) = to_drop n store p m lucks (hosted_by n.wire.world store m.table)
+told_step n store p lucks (tells.Save m) = to_save n store p m lucks (hosted_by n.wire.world store m.table)
 told_step n store p lucks (tells.Restore m) = restored n store p m (busy_live n.wire.world store)
 told_step n store p lucks tells.Nothing = still n facts.Done
 
@@ -297,6 +299,7 @@ module _ (n : Net) (from to : Node) (lucks : Lucks) where
   by_told : (store : ℕ) (message : Message) → to_store n store (with message) lucks None ≡ told_step n store (with message) lucks (told_in (Some message))
   by_told store (messages.CreateTable m) = refl
   by_told store (messages.DropTable m) = refl
+  by_told store (messages.SaveClientSubscription m) = refl
   by_told store (messages.RestoreClientSubscriptions m) = refl
   by_told store other = refl
 
@@ -304,12 +307,14 @@ module _ (n : Net) (from to : Node) (lucks : Lucks) where
 abbrev pub IsToldOf : Told → Type 0
 IsToldOf (tells.Create m) = spelling.IsClient m.client
 IsToldOf (tells.Drop m) = spelling.IsClient m.client
+IsToldOf (tells.Save m) = spelling.IsClient m.client
 IsToldOf (tells.Restore m) = spelling.IsClient m.client
 IsToldOf tells.Nothing = Unit {0}
 
 told_short : (message : Message) → IsShort message → IsToldOf (told_in (Some message))
 told_short (messages.CreateTable m) short = short.0
 told_short (messages.DropTable m) short = short
+told_short (messages.SaveClientSubscription m) short = short.0
 told_short (messages.RestoreClientSubscriptions m) short = short.0
 told_short other short = tt
 
@@ -372,8 +377,9 @@ busy_none n store found told is = go (busy_live n.wire.world store) (sym (ap (op
     go None e = refl
     go (Some table) e = absurd (let bad : None ≡ Some (busy_lines n.wire.world table) = e in cc)
 
-restoring_one : (store : ℕ) (p : Sent) (m : RestoreClientSubscriptions) → spelling.IsClient m.client → AreShort (restoring store p m ∷ [])
-restoring_one store p m is = ((λ none. (is, refl)), tt)
+restoring_one : (n : Net) (store : ℕ) (p : Sent) (m : RestoreClientSubscriptions) → spelling.IsClient m.client
+    → AreShort (restoring n store p m ∷ [])
+restoring_one n store p m is = ((λ none. (is, few_kept n.wire.world store m.client)), tt)
 
 module _ {D : Type 0} (state : D → DiskState) (images : D → ℕ → List ℕ → Type 0) (only_now : (disk : D) (image : List ℕ) → images disk (state disk).moment image → IsImage (state disk).pending image)
     (is_out : ℕ → Bool) (n : Net) (store : ℕ) (p : Sent) (m : RestoreClientSubscriptions) (old : World D) (x : IsUpIn state is_out (nodes.Store store) n old) where
@@ -383,16 +389,16 @@ module _ {D : Type 0} (state : D → DiskState) (images : D → ℕ → List ℕ
   -- it sends its answer
   module _ (new : World D) (to : new ≡ record old { network = new.network }) where
     pub restores_delivers : spelling.IsClient m.client → (before after : List TextLine) → map line_of before ≡ AnswerLine facts.Done ∷ []
-        → AreSent n.wire.packets n.sent (restoring store p m ∷ []) new.network before after
-        → Delivers state images n (λ lucks. sending n (restoring store p m ∷ [])) (Ok after) is_out old new
+        → AreSent n.wire.packets n.sent (restoring n store p m ∷ []) new.network before after
+        → Delivers state images n (λ lucks. sending n (restoring n store p m ∷ [])) (Ok after) is_out old new
     restores_delivers is before after first k =
-        sends_delivers state images n n is_out old old x.held refl unmoved (restoring store p m ∷ []) (λ lucks. sending n (restoring store p m ∷ [])) refl
-        (restoring_one store p m is) (λ k below. below) new to before after first k
+        sends_delivers state images n n is_out old old x.held refl unmoved (restoring n store p m ∷ []) (λ lucks. sending n (restoring n store p m ∷ [])) refl
+        (restoring_one n store p m is) (λ k below. below) new to before after first k
 
-    pub restores_fails : (e : WorldFault) → IsSendFault e → IsOverFault (n.sent ++ restoring store p m ∷ []) e
-        → Delivers state images n (λ lucks. sending n (restoring store p m ∷ [])) (Err e) is_out old new
+    pub restores_fails : (e : WorldFault) → IsSendFault e → IsOverFault (n.sent ++ restoring n store p m ∷ []) e
+        → Delivers state images n (λ lucks. sending n (restoring n store p m ∷ [])) (Err e) is_out old new
     restores_fails e only over =
-        sends_fails state images n n is_out old old x.held refl unmoved (restoring store p m ∷ []) (λ lucks. sending n (restoring store p m ∷ [])) refl (λ k below. below) new to e only over
+        sends_fails state images n n is_out old old x.held refl unmoved (restoring n store p m ∷ []) (λ lucks. sending n (restoring n store p m ∷ [])) refl (λ k below. below) new to e only over
 
   -- or it is at work
   pub busy_delivers : (table : ℕ) → busy_live n.wire.world store ≡ Some table → (lines : List TextLine) → map line_of lines ≡ busy_lines n.wire.world table

@@ -1,4 +1,4 @@
--- A Store makes or drops a table, as an event of the wire, and who asked for it is kept.
+-- A Store makes or drops a table or keeps a subscription to it, as an event of the wire, and who asked for it is kept.
 use Rattle.std.proofs.Common.{◌≡◌, ◌≢◌, ◌⊎◌, inl, inr, ⊎_elim, ℕ, ◌+◌, Bool, true, false, cond, List, Some, Result, Ok, Err, refl, sym, ◌∙◌, ap, subst, arith}
 use Rattle.std.specs.Prelude.{IfOk, IfErr, is_some, option_map}
 use Rattle.std.specs.Ordering.{nat_cmp}
@@ -54,6 +54,7 @@ alters_built (events.Create (nodes.Gate k) table) a = absurd a
 alters_built (events.Drop (nodes.Store k) table) a = tt
 alters_built (events.Drop (nodes.Client k) table) a = absurd a
 alters_built (events.Drop (nodes.Gate k) table) a = absurd a
+alters_built (events.Save k table c terms) a = a
 alters_built other a = absurd a
 
 alters_plain : (event : Event) → Alters event → is_declaration event ≡ false
@@ -63,6 +64,7 @@ alters_plain (events.Create (nodes.Gate k) table) a = absurd a
 alters_plain (events.Drop (nodes.Store k) table) a = refl
 alters_plain (events.Drop (nodes.Client k) table) a = absurd a
 alters_plain (events.Drop (nodes.Gate k) table) a = absurd a
+alters_plain (events.Save k table c terms) a = refl
 alters_plain other a = absurd a
 
 alters_shown : (event : Event) → Alters event → (v : Wire) (lucks : Lucks) → is_wire_fault v event lucks ≡ is_fault_answer (wire_step v event lucks).answer
@@ -72,6 +74,7 @@ alters_shown (events.Create (nodes.Gate k) table) a v lucks = absurd a
 alters_shown (events.Drop (nodes.Store k) table) a v lucks = refl
 alters_shown (events.Drop (nodes.Client k) table) a v lucks = absurd a
 alters_shown (events.Drop (nodes.Gate k) table) a v lucks = absurd a
+alters_shown (events.Save k table c terms) a v lucks = refl
 alters_shown other a v lucks = absurd a
 
 -- none spends a number
@@ -82,6 +85,7 @@ alters_spends (events.Create (nodes.Gate i) table) a m n k = absurd a
 alters_spends (events.Drop (nodes.Store i) table) a m n k = k
 alters_spends (events.Drop (nodes.Client i) table) a m n k = absurd a
 alters_spends (events.Drop (nodes.Gate i) table) a m n k = absurd a
+alters_spends (events.Save k table c terms) a m n k = k
 alters_spends other a m n k = absurd a
 
 alters_begins : (event : Event) → Alters event → (n : Net) → may_begin n event ≡ 1
@@ -91,6 +95,7 @@ alters_begins (events.Create (nodes.Gate k) table) a n = absurd a
 alters_begins (events.Drop (nodes.Store k) table) a n = refl
 alters_begins (events.Drop (nodes.Client k) table) a n = absurd a
 alters_begins (events.Drop (nodes.Gate k) table) a n = absurd a
+alters_begins (events.Save k table c terms) a n = refl
 alters_begins other a n = absurd a
 
 pub stood_in : {D : Type 0} (state : D → DiskState) (is_out : ℕ → Bool) (to : Node) (n : Net) (world : World D) → IsUpIn state is_out to n world → IsStood state is_out n world

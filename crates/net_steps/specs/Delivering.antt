@@ -162,6 +162,7 @@ step_begun n c m d = if (m.status == 0) && (m.answered == 1)
 abbrev pub told_in : Option Message → Told
 told_in (Some (messages.CreateTable m)) = tells.Create m
 told_in (Some (messages.DropTable m)) = tells.Drop m
+told_in (Some (messages.SaveClientSubscription m)) = tells.Save m
 told_in (Some (messages.RestoreClientSubscriptions m)) = tells.Restore m
 told_in other = tells.Nothing
 
@@ -185,10 +186,11 @@ abbrev pub IsOfClient : Option Asked → Type 0
 IsOfClient None = Unit {0}
 IsOfClient (Some a) = IsClient a.client
 
--- an event that has a Store make or drop a table
+-- an event that has a Store make or drop a table, or keep a client's subscription to it
 abbrev pub Alters : Event → Type 0
 Alters (events.Create (nodes.Store number) table) = Unit {0}
 Alters (events.Drop (nodes.Store number) table) = Unit {0}
+Alters (events.Save number table client terms) = IsClient client
 Alters other = ⊥
 
 -- and one that has this client open or close one

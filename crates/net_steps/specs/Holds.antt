@@ -6,6 +6,7 @@ use Rattle.value_codec.specs.SchemaSpelling.{schema_spelling}
 use Rattle.row_store.specs.Spelling.{IsClient}
 use Rattle.table_model.specs.declared.event.Event.{Event}
 use Rattle.table_model.specs.declared.event.Event.TheVariants as events
+use Rattle.table_model.specs.declared.event.NetEvent.TheVariants as nets
 use Rattle.message_parts.specs.Parts.{part_of}
 use Rattle.part_network.specs.Packets.{bytes_of}
 use Rattle.gated_tables.specs.Devices.{Device}
@@ -20,7 +21,7 @@ use Rattle.net_steps.specs.declared.world.World.{World}
 use Rattle.net_steps.specs.Askers.{AreAsked, HoldsAskers}
 use Rattle.net_steps.specs.Devices.{HoldsDevices}
 
--- a message that is no part has no list or bytes, and its schema is short where it has one
+-- a message that is no part has no bytes, and its schema or list is short where it has one
 abbrev pub IsShortSent : Sent → Type 0
 IsShortSent one = part_of one.message ≡ None → IsShort one.message
 
@@ -39,10 +40,12 @@ pub record Holds {D : Type 0} (state : D → DiskState) (n : Net) (world : World
   pub askers : HoldsAskers n.askers world.askers
   pub asked : AreAsked n.askers n.wire.world.schemas
 
--- a frame has room for the schema of a table that is declared, with 128 bytes more
+-- a frame has room for the schema of a table that is declared, with 128 bytes more; a client subscribes with a period
+-- from 1
 abbrev pub IsFramedEvent : Event → Type 0
 IsFramedEvent (events.Table table schema) = length (schema_spelling schema) + 128 ≤ frame_room
 IsFramedEvent (events.Draft table schema) = length (schema_spelling schema) + 128 ≤ frame_room
+IsFramedEvent (events.Net (nets.Subscribe c table period tolerance)) = 1 ≤ period
 IsFramedEvent other = Unit {0}
 
 -- the world of the program stands where a script has led, and this event may come next

@@ -14,3 +14,4 @@ pub mod Changing
 pub mod Delivering
 pub mod Requesting
 pub mod Notifying
+pub mod Ticking

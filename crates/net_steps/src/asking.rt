@@ -36,8 +36,8 @@ impl<D: Disk + Drop> World<D> {
         }
     }
 
-    // Sends it.
-    fn ask_for(
+    /// A client sends a message about a table.
+    pub(crate) fn ask_for(
         &mut self,
         client: ClientNo,
         to: Node,
@@ -54,8 +54,8 @@ impl<D: Disk + Drop> World<D> {
         Ok(lines)
     }
 
-    // Why a client that is up asks for nothing now: it is at work, or its link or its session is down.
-    fn away(&self, client: ClientNo) -> Option<Refusal>
+    /// Why a client that is up asks for nothing now: it is at work, or its link or its session is down.
+    pub(crate) fn away(&self, client: ClientNo) -> Option<Refusal>
         requires here { (is_out : ℕ → Bool) × (n : Net) × IsUpIn D.state is_out (nodes.Client client) n self.now }
         ensures { (is_out : ℕ → Bool) (n : Net) → IsUpIn D.state is_out (nodes.Client client) n self.now
             → IsAway n client result }

@@ -87,18 +87,18 @@ impl<D: Disk + Drop> World<D> {
     fn hand_on(
         &mut self,
         from: Node,
-        way: Way,
+        came: Option<(u64, u64)>,
         to: Node,
         message: &Message,
         lines: &mut Lines,
     ) -> Result<(), WorldFault>
         requires short { part_of message.now ≡ None → IsShort message.now }
         ensures sent { (v : Wire) (sent : List AMessage) → HasGone D.state v sent self.old
-            → GoesOn v.packets way.part message.now
+            → GoesOn v.packets came message.now
             → OnOk result (AreSent v.packets sent (record { from = from; to = to; message = message.now } ∷ [])
             self.new.network lines.old lines.new) }
         ensures over { (v : Wire) (sent : List AMessage) → HasGone D.state v sent self.old
-            → GoesOn v.packets way.part message.now
+            → GoesOn v.packets came message.now
             → IfErr result (IsOverFault (sent ++ record { from = from; to = to; message = message.now } ∷ [])) }
         ensures only { IfErr result IsSendFault }
         ensures same { self.new ≡ record self.old { network = self.new.network } }
@@ -106,7 +106,7 @@ impl<D: Disk + Drop> World<D> {
         if !is_part(message) {
             return self.send(from, to, message, lines);
         }
-        match way.part {
+        match came {
             Some((packet, token)) => self.hand_part(from, to, packet, token, message, lines),
             None => Ok(()),
         }
@@ -115,43 +115,44 @@ impl<D: Disk + Drop> World<D> {
     fn hand_one(
         &mut self,
         from: Node,
-        way: Way,
+        came: Option<(u64, u64)>,
         to: Node,
         message: Message,
         lines: &mut Lines,
     ) -> Result<(), WorldFault>
         requires short { part_of message ≡ None → IsShort message }
         ensures sent { (v : Wire) (sent : List AMessage) → HasGone D.state v sent self.old
-            → GoesOn v.packets way.part message
+            → GoesOn v.packets came message
             → OnOk result (AreSent v.packets sent (record { from = from; to = to; message = message } ∷ [])
             self.new.network lines.old lines.new) }
         ensures over { (v : Wire) (sent : List AMessage) → HasGone D.state v sent self.old
-            → GoesOn v.packets way.part message
+            → GoesOn v.packets came message
             → IfErr result (IsOverFault (sent ++ record { from = from; to = to; message = message } ∷ [])) }
         ensures only { IfErr result IsSendFault }
         ensures same { self.new ≡ record self.old { network = self.new.network } }
     {
-        self.hand_on(from, way, to, &message, lines)
+        self.hand_on(from, came, to, &message, lines)
     }
 
-    fn hand_all(
+    /// A gateway sends these, in order.
+    pub(crate) fn hand_all(
         &mut self,
         from: Node,
-        way: Way,
+        came: Option<(u64, u64)>,
         sends: Sequence<Sent>,
         lines: &mut Lines,
     ) -> Result<(), WorldFault>
         requires short { AreShortSends sends }
         ensures sent { (v : Wire) (sent : List AMessage) → HasGone D.state v sent self.old
-            → AllGoOn v.packets way.part sends
+            → AllGoOn v.packets came sends
             → OnOk result (AreSent v.packets sent (all_from from sends) self.new.network lines.old lines.new) }
         ensures over { (v : Wire) (sent : List AMessage) → HasGone D.state v sent self.old
-            → AllGoOn v.packets way.part sends → IfErr result (IsOverFault (sent ++ all_from from sends)) }
+            → AllGoOn v.packets came sends → IfErr result (IsOverFault (sent ++ all_from from sends)) }
         ensures only { IfErr result IsSendFault }
         ensures same { self.new ≡ record self.old { network = self.new.network } }
     {
         for (to, message) in sends.into_vec() {
-            self.hand_one(from, way, to, message, lines)?;
+            self.hand_one(from, came, to, message, lines)?;
         }
         Ok(())
     }
@@ -177,7 +178,7 @@ impl<D: Disk + Drop> World<D> {
             Err(fault) => return Err(spent_of(fault)),
         };
         let mut lines = self.only(Answer::Done)?;
-        self.hand_all(Node::Gate(gate), way, sends, &mut lines)?;
+        self.hand_all(Node::Gate(gate), way.part, sends, &mut lines)?;
         Ok(lines)
     }
 

@@ -1,9 +1,9 @@
 //! The events of which the world makes something beside what the wire makes of them.
 ghost use Rattle.std.specs.Prelude.{◌≡◌};
-ghost use Rattle.net_steps.specs.Kinds.{kind_of};
+ghost use Rattle.net_steps.specs.Kinds.{kind_of, kind_of_net};
 
 use stab_base::{ClientNo, GateNo, Node, TableNo};
-use table_model::Event;
+use table_model::{Event, NetEvent};
 
 /// What is done to a gateway.
 #[derive(Debug, Clone, Copy, PartialEq, Eq)]
@@ -14,6 +14,15 @@ pub(crate) enum Deed {
     WorkAll,
     Crash,
     Start,
+}
+
+/// What a client asks of its gateway for a table.
+#[derive(Debug, Clone, Copy, PartialEq, Eq)]
+pub(crate) enum Wanted {
+    /// To be told of changes: after how many ticks, and how many more it may take.
+    Changes { period: u32, tolerance: u32 },
+    /// To be told no more.
+    Nothing,
 }
 
 #[derive(Debug, Clone, Copy, PartialEq, Eq)]
@@ -30,11 +39,31 @@ pub(crate) enum Kind {
     Create(ClientNo, TableNo),
     /// A client asks for a table to be dropped.
     Drop(ClientNo, TableNo),
-    /// What is asked of a node that asks for nothing.
+    /// A client asks its gateway to be told of changes of a table, or no more.
+    Want(ClientNo, TableNo, Wanted),
+    /// Time passes by one tick.
+    Tick,
+    /// What is asked of a node that asks for nothing, and what does nothing yet.
     Aside,
     Gate(GateNo, Deed),
     /// Any other event.
     Other,
+}
+
+fn kind_of_net(event: NetEvent) -> Kind
+    ensures { result ≡ kind_of_net event }
+{
+    match event {
+        NetEvent::Subscribe {
+            client,
+            table,
+            period,
+            tolerance,
+        } => Kind::Want(client, table, Wanted::Changes { period, tolerance }),
+        NetEvent::Unsubscribe { client, table } => Kind::Want(client, table, Wanted::Nothing),
+        NetEvent::WriteSync { .. } => Kind::Aside,
+        NetEvent::Tick => Kind::Tick,
+    }
 }
 
 /// Which of them an event is.
@@ -59,6 +88,7 @@ pub(crate) fn kind_of(event: &Event) -> Kind
             table,
         } => Kind::Drop(*client, *table),
         Event::Create { .. } | Event::Drop { .. } => Kind::Aside,
+        Event::Net(it) => kind_of_net(*it),
         Event::Hold {
             node: Node::Gate(gate),
         }

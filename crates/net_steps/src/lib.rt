@@ -19,10 +19,13 @@ mod links;
 mod notify;
 mod reading;
 mod restore;
+mod saving;
 mod say;
 mod session;
+mod subscribe;
 mod tables;
 mod through;
+mod tick;
 mod world;
 
 pub use world::World;

@@ -1,18 +1,104 @@
-//! A gateway asks a Store for the subscriptions that it has kept of a client, of which there are none yet.
-ghost use Rattle.std.specs.Prelude.{◌≡◌, ℕ, Bool, None, [], ◌∷◌};
+//! A gateway asks a Store for the subscriptions that it has kept of a client.
+ghost use Rattle.std.specs.Prelude.{◌≡◌, ◌++◌, ◌==◌, ℕ, Bool, List, None, [], ◌∷◌, option_copied, option_to_list};
+ghost use Rattle.std.specs.Prelude.{find, IfOk, IfErr, OnOk};
+ghost use Rattle.std.specs.Ordering.{nat_cmp};
+ghost use Rattle.std.specs.Map.{lookup};
+ghost use Rattle.std.specs.BTreeMap.{is_at};
+ghost use Rattle.row_store.specs.declared.stored.Sub.{Sub as ASub};
+ghost use Rattle.step_tables.specs.StoreMoves.{Terms};
 ghost use Rattle.sync_msgs.specs.Spelling.{IsClient};
 ghost use Rattle.stab_base.specs.declared.node.Node.TheVariants as nodes;
-ghost use Rattle.world_tables.specs.World.{busy_live};
-ghost use Rattle.gated_tables.specs.Net.{Net, Sent, restored, restoring, sending};
+ghost use Rattle.world_tables.specs.World.{busy_live, hosted_by};
+ghost use Rattle.store_node.specs.Sides.{listed};
+ghost use Rattle.gated_tables.specs.Net.{Net, Sent, restored, restoring, sending, sub_at, sub_of, subs_of_client};
+ghost use Rattle.node_steps.specs.declared.fault.WorldFault.TheVariants.{Memory};
 ghost use Rattle.net_steps.specs.Delivering.{Delivers, IsUpIn};
 
 use crate::world::World;
 use disk_trait::Disk;
 use node_steps::{Lines, WorldFault};
-use stab_base::{Node, Sequence, StoreNo};
-use table_model::{Answer, Message, RestoreClientSubscriptions};
+use row_store::Sub;
+use stab_base::{ClientNo, Node, Sequence, StoreNo, TableNo};
+use std::alloc::AllocError;
+use table_model::{Answer, Message, RestoreClientSubscriptions, TableState, TableSubscription};
+
+/// The last table.
+const LAST_TABLE: TableNo = 64;
+
+fn sub_in(subs: &[Sub], client: ClientNo) -> Option<&Sub>
+    ensures { option_copied result ≡ find (λ (sub : ASub). sub.client == client) subs.now }
+{
+    subs.iter().find(|sub| sub.client == client)
+}
+
+// A client's subscription to a table, which has these.
+fn subscription_in(table: TableNo, subs: &[Sub], client: ClientNo) -> Option<TableSubscription>
+    ensures { (held : List (ℕ × Terms)) → subs.now ≡ listed held
+        → option_to_list result ≡ sub_of table (lookup (is_at (nat_cmp client)) held) }
+{
+    match sub_in(subs, client) {
+        Some(sub) => Some(TableSubscription {
+            table,
+            period: sub.period,
+            tolerance: sub.tolerance,
+        }),
+        None => None,
+    }
+}
+
+fn add(
+    subs: &mut Sequence<TableSubscription>,
+    found: Option<TableSubscription>,
+) -> Result<(), AllocError>
+    ensures { OnOk result (subs.new ≡ subs.old ++ option_to_list found) }
+{
+    if let Some(sub) = found {
+        subs.push(sub)?;
+    }
+    Ok(())
+}
 
 impl<D: Disk + Drop> World<D> {
+    // A client's subscription to a live table of a Store that is up.
+    fn kept_sub(
+        &self,
+        store: StoreNo,
+        table: TableNo,
+        client: ClientNo,
+    ) -> Result<Option<TableSubscription>, WorldFault>
+        requires here { (is_out : ℕ → Bool) × (n : Net) × IsUpIn D.state is_out (nodes.Store store) n self.now }
+        ensures kept { (is_out : ℕ → Bool) (n : Net) → IsUpIn D.state is_out (nodes.Store store) n self.now
+            → IfOk result (λ found. option_to_list found
+            ≡ sub_at client table (hosted_by n.wire.world store table)) }
+        ensures memory { IfErr result (λ e. e ≡ Memory) }
+    {
+        match self.state_by(store, table) {
+            Some(TableState::Live) => {
+                let subs = self.wire.subs(table)?;
+                Ok(subscription_in(table, subs.as_slice(), client))
+            }
+            _ => Ok(None),
+        }
+    }
+
+    // Its subscriptions to all of them, by rising table.
+    fn kept_subs(
+        &self,
+        store: StoreNo,
+        client: ClientNo,
+    ) -> Result<Sequence<TableSubscription>, WorldFault>
+        requires here { (is_out : ℕ → Bool) × (n : Net) × IsUpIn D.state is_out (nodes.Store store) n self.now }
+        ensures kept { (is_out : ℕ → Bool) (n : Net) → IsUpIn D.state is_out (nodes.Store store) n self.now
+            → IfOk result (λ subs. subs ≡ subs_of_client n.wire.world store client) }
+        ensures memory { IfErr result (λ e. e ≡ Memory) }
+    {
+        let mut subs = Sequence::new(self.alloc);
+        for table in 1..=LAST_TABLE {
+            add(&mut subs, self.kept_sub(store, table, client)?)?;
+        }
+        Ok(subs)
+    }
+
     // A Store that isn't at work sends its answer.
     fn send_restored(
         &mut self,
@@ -24,14 +110,15 @@ impl<D: Disk + Drop> World<D> {
         requires client { IsClient asked.client }
         ensures { (is_out : ℕ → Bool) (n : Net) (p : Sent) → IsUpIn D.state is_out (nodes.Store store) n self.old
             → p.from ≡ from → Delivers D.state D.images n
-            (λ lucks. sending n (restoring store p asked ∷ [])) result is_out self.old self.new }
+            (λ lucks. sending n (restoring n store p asked ∷ [])) result is_out self.old self.new }
     {
         let mut lines = self.only(Answer::Done)?;
+        let subscriptions = self.kept_subs(store, asked.client)?;
         let message = Message::RestoreClientSubscriptions(RestoreClientSubscriptions {
             client: asked.client,
             gate: asked.gate,
             reply: true,
-            subscriptions: Sequence::new(self.alloc),
+            subscriptions,
         });
         self.send(Node::Store(store), from, &message, &mut lines)?;
         Ok(lines)

@@ -1,5 +1,5 @@
 //! What a Store makes of messages about tables: it makes and drops them, and turns away what is asked of one that isn't
-//! live.
+//! live. Subscriptions are kept in `saving`.
 ghost use Rattle.std.specs.Prelude.{◌≡◌, ℕ, Bool, Some, None};
 ghost use Rattle.disk_trait.specs.Calls.{IsCounted};
 ghost use Rattle.stab_base.specs.declared.node.Node.{Node as ANode};
@@ -30,7 +30,8 @@ use node_steps::{Lines, WorldFault};
 use row_value::Schema;
 use stab_base::{Node, StoreNo, TableNo};
 use table_model::{
-    Answer, CreateTable, DropTable, Event, Message, RestoreClientSubscriptions, TableState,
+    Answer, CreateTable, DropTable, Event, Message, RestoreClientSubscriptions,
+    SaveClientSubscription, TableState,
 };
 
 /// A message that is no part, as a Store takes it.
@@ -38,6 +39,7 @@ use table_model::{
 pub(crate) enum Told {
     Create(CreateTable),
     Drop(DropTable),
+    Save(SaveClientSubscription),
     Restore(RestoreClientSubscriptions),
     Nothing,
 }
@@ -57,14 +59,15 @@ fn told_in(message: Option<Message>) -> Told
     match message {
         Some(Message::CreateTable(asked)) => Told::Create(asked),
         Some(Message::DropTable(asked)) => Told::Drop(asked),
+        Some(Message::SaveClientSubscription(asked)) => Told::Save(asked),
         Some(Message::RestoreClientSubscriptions(asked)) => Told::Restore(asked),
         _ => Told::Nothing,
     }
 }
 
 impl<D: Disk + Drop> World<D> {
-    // An answer of a Store alone.
-    fn answer_alone(
+    /// An answer of a Store alone.
+    pub(crate) fn answer_alone(
         &mut self,
         table: TableNo,
         asker: Asker,
@@ -82,8 +85,8 @@ impl<D: Disk + Drop> World<D> {
         Ok(lines)
     }
 
-    // The state of a table that this Store, which is up, keeps.
-    fn state_by(&self, store: StoreNo, table: TableNo) -> Option<TableState>
+    /// The state of a table that this Store, which is up, keeps.
+    pub(crate) fn state_by(&self, store: StoreNo, table: TableNo) -> Option<TableState>
         ensures { (is_out : ℕ → Bool) (n : Net) → IsUpIn D.state is_out (nodes.Store store) n self.now
             → IsStateOf result (hosted_by n.wire.world store table) }
     {
@@ -104,8 +107,8 @@ impl<D: Disk + Drop> World<D> {
         }
     }
 
-    // A Store makes or drops a table, and who asked for it is kept.
-    fn alter<P: Depot<Disk = D>>(
+    /// A Store makes or drops a table or keeps a subscription to it, and who asked for it is kept.
+    pub(crate) fn alter<P: Depot<Disk = D>>(
         &mut self,
         depot: &mut P,
         event: &Event,
@@ -347,6 +350,7 @@ impl<D: Disk + Drop> World<D> {
         match told_in(found) {
             Told::Create(asked) => self.create(depot, store, from, &asked),
             Told::Drop(asked) => self.drop_table(depot, store, from, asked),
+            Told::Save(asked) => self.save(depot, store, from, asked),
             Told::Restore(asked) => self.restore(store, from, asked),
             Told::Nothing => self.only(Answer::Done),
         }

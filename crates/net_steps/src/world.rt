@@ -28,7 +28,7 @@ use std::collections::BTreeMap;
 use table_model::{Answer, Event};
 
 /// The declared tables and clients on their disks, the gateways, what clients have of their gateways, who asked last
-/// for a table to be made or dropped, and every message that was ever sent.
+/// for a table to be made or dropped or for a subscription to it, and every message that was ever sent.
 #[derive(Drop)]
 pub struct World<D: Disk> {
     pub(crate) wire: wire_steps::World<D>,
@@ -55,8 +55,8 @@ impl<D: Disk + Drop> World<D> {
         }
     }
 
-    /// Carries out an event: the lines that it writes. Declarations come before all other events, and a table's schema
-    /// has a spelling that a frame has room for, with 128 bytes more. Disks come from the depot: of table T those of
+    /// Carries out an event: the lines that it writes. Declarations come before all other events, a table's schema has
+    /// a spelling that a frame has room for, with 128 bytes more, and a client subscribes with a period from 1. Disks come from the depot: of table T those of
     /// the numbers 3(T-1), 3(T-1)+1 and 3(T-1)+2, for its chunks, its rows and its log; of client C those of the
     /// numbers 192+3(C-1), 192+3(C-1)+1 and 192+3(C-1)+2, for its journal, its slots and its chunks.
     ///
@@ -98,6 +98,8 @@ impl<D: Disk + Drop> World<D> {
             Kind::Wake(client) => self.wake(depot, client),
             Kind::Create(client, table) => self.ask_create(client, table),
             Kind::Drop(client, table) => self.ask_drop(client, table),
+            Kind::Want(client, table, wanted) => self.want(client, table, wanted),
+            Kind::Tick => self.tick(),
             Kind::Aside => self.only(Answer::Done),
             Kind::Gate(gate, deed) => self.do_to_gate(depot, event, gate, deed),
             Kind::Other => self.carry_out(depot, event),

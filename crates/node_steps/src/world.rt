@@ -21,7 +21,7 @@ use std::alloc::Global;
 use std::collections::BTreeMap;
 use store_host::StoreHost;
 use store_node::SidePut;
-use table_model::{Event, TableState};
+use table_model::{Answer, Event, TableState};
 
 /// The declared Stores with their tables, and the clients, on their disks.
 #[derive(Drop)]
@@ -114,8 +114,9 @@ impl<D: Disk + Drop> World<D> {
             Event::WorkAll { node } => self.work_all(*node),
             Event::Crash { node, calls, pick } => self.crash(*node, *calls, *pick),
             Event::Start { node } => self.start(*node),
-            // The nodes make nothing of a gateway.
+            // The nodes make nothing of a gateway, nor of what is done by way of gateways.
             Event::Gate { .. } => Ok(self.silent()),
+            Event::Net(_) => self.only(Answer::Done),
             // Calls are made above, and no other event is left.
             _ => unreachable!(),
         }

@@ -13,7 +13,7 @@ use Rattle.gate_host.proofs.placing.place_all.Goals as goal
 
 pub loop-number-init : goal.loop-number-init
 loop-number-init c stores schemas d =
-    subst (λ (l : List ℕ). AreReplaced (directory_by stores schemas) c.args.gates.now c.args.gates.now l) (sym (c.as_slice-number-items.ensures ∙ c.in_ok-numbers.ensures))
+    subst (λ (l : List ℕ). AreReplaced (directory_by stores schemas) c.args.gates.now c.args.gates.now l) (sym (c.as_slice-number-items.ensures ∙ c.in_ok-numbers.ensures.numbers))
     (replaced_first (directory_by stores schemas) c.args.gates.now)
 
 pub loop-number-preserved : goal.loop-number-preserved

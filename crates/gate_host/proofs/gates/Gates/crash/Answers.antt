@@ -11,5 +11,5 @@ returns-in-Some c stores schemas gates h =
     let it = c.crash.new.self in
     let f = found stores schemas gates c.args.self.now h n c.in-Some.gateway.now c.in-Some.ensures.value in
     subst (λ (o : Option Gateway). HoldsGates stores schemas (fallen n o gates) (record c.args.self.now { gates = c.get_mut.follows.lender it })) (sym f.1)
-    (put_held stores schemas gates c.args.self.now h (c.get_mut.follows.lender it) n it ((c.get_mut.follows.holds it).3 (some_there _ _ c.in-Some.ensures.value)).0 (crashed f.0)
+    (put_held stores schemas gates c.args.self.now h (c.get_mut.follows.lender it) n it ((c.get_mut.follows.holds it).3 (some_there _ _ c.in-Some.ensures.value)).0 (crashed f.0) tt
     (crashed_so _ n f.0 c.in-Some.gateway.now it f.2 c.crash.ensures.state c.crash.ensures.number c.crash.ensures.directory c.crash.ensures.gathered))

@@ -1,6 +1,7 @@
 use Rattle.std.proofs.lemmas.Result.{on_ok_weaker, on_err_weaker}
 use Rattle.gate_tables.specs.Gate.{ticked}
 use Rattle.gate_host.specs.Moves.{directory_by, up}
+use Rattle.gate_host.proofs.OfClients.{ticked_kept}
 use Rattle.gate_host.proofs.Standing.{some_there, found, found_as, put_held, same_held}
 use Rattle.gate_host.proofs.gates.Gates.tick.Goals as goal
 
@@ -11,7 +12,7 @@ returns-clause-held c stores schemas gates starts running h there =
     let at = found_as stores schemas gates c.args.self.now h n c.in-Some.gateway.now c.in-Some.ensures.value (up starts running) there in
     on_ok_weaker c.tick.result
     (put_held stores schemas gates c.args.self.now h (c.get_mut.follows.lender it) n it ((c.get_mut.follows.holds it).3 (some_there _ _ c.in-Some.ensures.value)).0
-    (up starts (ticked running).running))
+    (up starts (ticked running).running) (ticked_kept running (h.clients n (up starts running) there)))
     (c.tick.ensures.held (directory_by stores schemas) n starts running at)
 
 pub returns-clause-sent : goal.returns-clause-sent

@@ -56,7 +56,7 @@ returns-in-Dropped-clause-comes g c n x k =
     let is_out = (g.P.Depot.state c.args.depot.now).is_out in
     let m = c.args.asked.now in
     let a = asker_of c.args.asker in
-    let f = λ (lucks : Lucks). answering n m.table a 2 18 in
+    let f = λ (lucks : Lucks). answering n m.table a 18 in
     comes_as g.D.Disk.state g.D.Disk.images n (λ lucks. creates n c.args.store a m lucks c.args.state) f
     (λ lucks. ap (creates n c.args.store a m lucks) c.in-Dropped.is) c.answer_alone.result is_out c.args.self.now c.answer_alone.new.self
     (comes_by g.D.Disk.state g.D.Disk.images n f c.answer_alone.result is_out c.args.self.now c.answer_alone.new.self

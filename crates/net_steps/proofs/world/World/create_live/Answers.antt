@@ -21,7 +21,7 @@ pub returns-then-is_declared : goal.returns-then-is_declared
 returns-then-is_declared g c is_out store n x k =
     let m = c.args.asked.now in
     let a = asker_of c.args.asker in
-    delivers_as g.D.Disk.state g.D.Disk.images n (λ lucks. creates n store a m lucks states.Live) (λ lucks. answering n m.table a 2 0)
+    delivers_as g.D.Disk.state g.D.Disk.images n (λ lucks. creates n store a m lucks states.Live) (λ lucks. answering n m.table a 0)
     (live_same n store a m c.is_declared.result (c.is_declared.ensures n x.held) c.if-is_declared.true) c.answer_alone.result is_out c.args.self.now c.answer_alone.new.self
     (c.answer_alone.ensures is_out (nodes.Store store) n x (may_tell g.D.Disk.state n m.table c.args.asker.client c.args.self.now x.held k c.args.asker.kind))
 
@@ -29,6 +29,6 @@ pub returns : goal.returns
 returns g c is_out store n x k =
     let m = c.args.asked.now in
     let a = asker_of c.args.asker in
-    delivers_as g.D.Disk.state g.D.Disk.images n (λ lucks. creates n store a m lucks states.Live) (λ lucks. answering n m.table a 2 18)
+    delivers_as g.D.Disk.state g.D.Disk.images n (λ lucks. creates n store a m lucks states.Live) (λ lucks. answering n m.table a 18)
     (live_other n store a m c.is_declared.result (c.is_declared.ensures n x.held) c.if-is_declared.false) c.answer_alone-2.result is_out c.args.self.now c.answer_alone-2.new.self
     (c.answer_alone-2.ensures is_out (nodes.Store store) n x (may_refuse g.D.Disk.state n m.table c.args.asker.client c.args.self.now x.held k.client c.args.asker.kind))

@@ -42,7 +42,7 @@ pub returns-in_default-clause-comes : goal.returns-in_default-clause-comes
 returns-in_default-clause-comes g c n m x k is =
     let is_out = (g.P.Depot.state c.args.depot.now).is_out in
     let a = asker_of c.args.asker in
-    let f = λ (lucks : Lucks). answering n c.args.table a 3 18 in
+    let f = λ (lucks : Lucks). answering n c.args.table a 18 in
     comes_as g.D.Disk.state g.D.Disk.images n (λ lucks. drops n c.args.store a m lucks c.args.state) f
     (drop_other n c.args.store a m c.args.table is c.args.state c.in_default.not-Live) c.answer_alone.result is_out c.args.self.now c.answer_alone.new.self
     (comes_by g.D.Disk.state g.D.Disk.images n f c.answer_alone.result is_out c.args.self.now c.answer_alone.new.self

@@ -14,7 +14,7 @@ loop-to-preserved g c =
       same = same_but c.args.self.now c.loop-to.self c.hand_one.new.self c.in_ok-hand_one.ensures.same inv.same;
       told = λ v sent gone all.
           let t = inv.told v sent gone all in
-          let fit = subst (AllGoOn v.packets c.args.way.part) c.in-Some.ensures.steps.0 t.0 in
+          let fit = subst (AllGoOn v.packets c.args.came) c.in-Some.ensures.steps.0 t.0 in
           let w = subst (λ (l : Sends). HandsOn v.packets sent (all_from c.args.from c.args.sends) (all_from c.args.from l) c.loop-to.self.network c.args.lines.now c.loop-to.lines)
           c.in-Some.ensures.steps.0 t.1 in (
             fit.1,
@@ -31,7 +31,7 @@ pub returns-in_err-hand_one-clause-over : goal.returns-in_err-hand_one-clause-ov
 returns-in_err-hand_one-clause-over g c v sent gone all =
     let inv = c.loop-to.invariant in
     let t = inv.told v sent gone all in
-    let fit = subst (AllGoOn v.packets c.args.way.part) c.in-Some.ensures.steps.0 t.0 in
+    let fit = subst (AllGoOn v.packets c.args.came) c.in-Some.ensures.steps.0 t.0 in
     let w = subst (λ (l : Sends). HandsOn v.packets sent (all_from c.args.from c.args.sends) (all_from c.args.from l) c.loop-to.self.network c.args.lines.now c.loop-to.lines)
     c.in-Some.ensures.steps.0 t.1 in
     let p = err_from_is_err_and c.from_residual.result c.from_residual.ensures.1 in

@@ -9,7 +9,7 @@ abbrev pub invariant-loop-to : goal.invariant-loop-to
 invariant-loop-to g l = record {
   short : AreShortSends l.to-iterator.rest.items;
   same : l.self ≡ record l.fn.self { network = l.self.network };
-  told : (v : Wire) (sent : List Sent) → HasGone g.D.Disk.state v sent l.fn.self → AllGoOn v.packets l.fn.way.part l.fn.sends
-      → AllGoOn v.packets l.fn.way.part l.to-iterator.rest.items
+  told : (v : Wire) (sent : List Sent) → HasGone g.D.Disk.state v sent l.fn.self → AllGoOn v.packets l.fn.came l.fn.sends
+      → AllGoOn v.packets l.fn.came l.to-iterator.rest.items
       × HandsOn v.packets sent (all_from l.fn.from l.fn.sends) (all_from l.fn.from l.to-iterator.rest.items) l.self.network l.fn.lines l.lines;
 }

@@ -1,7 +1,10 @@
 use Rattle.std.proofs.Common.{sym}
 use Rattle.stab_base.specs.declared.node.Node.TheVariants as nodes
 use Rattle.table_model.specs.declared.event.Event.TheVariants as events
+use Rattle.table_model.specs.declared.event.NetEvent.TheVariants as nets
+use Rattle.net_steps.specs.Kinds.{want_of}
 use Rattle.net_steps.proofs.Deeded.{promised_as}
+use Rattle.net_steps.proofs.Kinded.{is_tick, wants, wants_period}
 use Rattle.net_steps.proofs.Kinded.{delivers, links, wakes, creates, drops, carries_on, aside_promises, before_of, goes_on_sound, at_as, comes_as, overruns_as, limited_as, plans_as, leaves_as}
 use Rattle.net_steps.proofs.Promised.{memory_apart, counted_alone}
 use Rattle.net_steps.proofs.world.World.step.Goals as goal
@@ -191,6 +194,109 @@ pub returns-in-Create-clause-sound : goal.returns-in-Create-clause-sound
 returns-in-Create-clause-sound g c run first built follows h out =
     goes_on_sound g.D.Disk.state g.D.Disk.images run c.args.event.now first built follows c.requires.built _ c.args.self.now c.ask_create.new.self c.ask_create.result
     (returns-in-Create-clause-done g c _ (record { before = before_of run c.args.event.now first built follows; held = h; out = out }))
+
+pub want-requires-clause-period : goal.want-requires-clause-period
+want-requires-clause-period g c =
+    let is = wants c.args.event.now c.in-Want.client c.in-Want.table c.in-Want.wanted (sym c.in-Want.ensures) in
+    wants_period c.args.event.now c.in-Want.client c.in-Want.table c.in-Want.wanted is c.requires.framed
+
+pub want-requires-clause-held : goal.want-requires-clause-held
+want-requires-clause-held g c =
+    let k = c.requires.held in
+    let is_out = (g.P.Depot.state c.args.depot.now).is_out in
+    (is_out, k.0, at_as g.D.Disk.state g.D.Disk.images c.args.event.now (events.Net (want_of c.in-Want.client c.in-Want.table c.in-Want.wanted)) (wants c.args.event.now c.in-Want.client c.in-Want.table c.in-Want.wanted (sym c.in-Want.ensures)) k.0 is_out c.args.self.now k.1)
+
+pub returns-in-Want-clause-done : goal.returns-in-Want-clause-done
+returns-in-Want-clause-done g c n at =
+    let is_out = (g.P.Depot.state c.args.depot.now).is_out in
+    (promised_as g.D.Disk.state g.D.Disk.images n c.args.event.now (events.Net (want_of c.in-Want.client c.in-Want.table c.in-Want.wanted))
+    (wants c.args.event.now c.in-Want.client c.in-Want.table c.in-Want.wanted (sym c.in-Want.ensures)) is_out c.want.result c.args.self.now c.want.new.self
+    (c.want.ensures.promises is_out n) at).done
+
+pub returns-in-Want-clause-over : goal.returns-in-Want-clause-over
+returns-in-Want-clause-over g c n at =
+    let is_out = (g.P.Depot.state c.args.depot.now).is_out in
+    (promised_as g.D.Disk.state g.D.Disk.images n c.args.event.now (events.Net (want_of c.in-Want.client c.in-Want.table c.in-Want.wanted))
+    (wants c.args.event.now c.in-Want.client c.in-Want.table c.in-Want.wanted (sym c.in-Want.ensures)) is_out c.want.result c.args.self.now c.want.new.self
+    (c.want.ensures.promises is_out n) at).over
+
+pub returns-in-Want-clause-left : goal.returns-in-Want-clause-left
+returns-in-Want-clause-left g c n at =
+    let is_out = (g.P.Depot.state c.args.depot.now).is_out in
+    (promised_as g.D.Disk.state g.D.Disk.images n c.args.event.now (events.Net (want_of c.in-Want.client c.in-Want.table c.in-Want.wanted))
+    (wants c.args.event.now c.in-Want.client c.in-Want.table c.in-Want.wanted (sym c.in-Want.ensures)) is_out c.want.result c.args.self.now c.want.new.self
+    (c.want.ensures.promises is_out n) at).left
+
+pub returns-in-Want-clause-limit : goal.returns-in-Want-clause-limit
+returns-in-Want-clause-limit g c n m at below =
+    let is_out = (g.P.Depot.state c.args.depot.now).is_out in
+    (promised_as g.D.Disk.state g.D.Disk.images n c.args.event.now (events.Net (want_of c.in-Want.client c.in-Want.table c.in-Want.wanted))
+    (wants c.args.event.now c.in-Want.client c.in-Want.table c.in-Want.wanted (sym c.in-Want.ensures)) is_out c.want.result c.args.self.now c.want.new.self
+    (c.want.ensures.promises is_out n) at).limit m below
+
+pub returns-in-Want-clause-plans : goal.returns-in-Want-clause-plans
+returns-in-Want-clause-plans g c n m at below =
+    let is_out = (g.P.Depot.state c.args.depot.now).is_out in
+    (promised_as g.D.Disk.state g.D.Disk.images n c.args.event.now (events.Net (want_of c.in-Want.client c.in-Want.table c.in-Want.wanted))
+    (wants c.args.event.now c.in-Want.client c.in-Want.table c.in-Want.wanted (sym c.in-Want.ensures)) is_out c.want.result c.args.self.now c.want.new.self
+    (c.want.ensures.promises is_out n) at).plans m below
+
+pub returns-in-Want-clause-depot : goal.returns-in-Want-clause-depot
+returns-in-Want-clause-depot g c = counted_alone _ c.want.result c.want.ensures.apart
+
+pub returns-in-Want-clause-sound : goal.returns-in-Want-clause-sound
+returns-in-Want-clause-sound g c run first built follows h out =
+    goes_on_sound g.D.Disk.state g.D.Disk.images run c.args.event.now first built follows c.requires.built _ c.args.self.now c.want.new.self c.want.result
+    (returns-in-Want-clause-done g c _ (record { before = before_of run c.args.event.now first built follows; held = h; out = out }))
+
+pub tick-requires : goal.tick-requires
+tick-requires g c =
+    let k = c.requires.held in
+    let is_out = (g.P.Depot.state c.args.depot.now).is_out in
+    record { held = (is_out, k.0, at_as g.D.Disk.state g.D.Disk.images c.args.event.now (events.Net nets.Tick) (is_tick c.args.event.now (sym c.in-Tick.ensures)) k.0 is_out c.args.self.now k.1) }
+
+pub returns-in-Tick-clause-done : goal.returns-in-Tick-clause-done
+returns-in-Tick-clause-done g c n at =
+    let is_out = (g.P.Depot.state c.args.depot.now).is_out in
+    (promised_as g.D.Disk.state g.D.Disk.images n c.args.event.now (events.Net nets.Tick)
+    (is_tick c.args.event.now (sym c.in-Tick.ensures)) is_out c.tick.result c.args.self.now c.tick.new.self
+    (c.tick.ensures.promises is_out n) at).done
+
+pub returns-in-Tick-clause-over : goal.returns-in-Tick-clause-over
+returns-in-Tick-clause-over g c n at =
+    let is_out = (g.P.Depot.state c.args.depot.now).is_out in
+    (promised_as g.D.Disk.state g.D.Disk.images n c.args.event.now (events.Net nets.Tick)
+    (is_tick c.args.event.now (sym c.in-Tick.ensures)) is_out c.tick.result c.args.self.now c.tick.new.self
+    (c.tick.ensures.promises is_out n) at).over
+
+pub returns-in-Tick-clause-left : goal.returns-in-Tick-clause-left
+returns-in-Tick-clause-left g c n at =
+    let is_out = (g.P.Depot.state c.args.depot.now).is_out in
+    (promised_as g.D.Disk.state g.D.Disk.images n c.args.event.now (events.Net nets.Tick)
+    (is_tick c.args.event.now (sym c.in-Tick.ensures)) is_out c.tick.result c.args.self.now c.tick.new.self
+    (c.tick.ensures.promises is_out n) at).left
+
+pub returns-in-Tick-clause-limit : goal.returns-in-Tick-clause-limit
+returns-in-Tick-clause-limit g c n m at below =
+    let is_out = (g.P.Depot.state c.args.depot.now).is_out in
+    (promised_as g.D.Disk.state g.D.Disk.images n c.args.event.now (events.Net nets.Tick)
+    (is_tick c.args.event.now (sym c.in-Tick.ensures)) is_out c.tick.result c.args.self.now c.tick.new.self
+    (c.tick.ensures.promises is_out n) at).limit m below
+
+pub returns-in-Tick-clause-plans : goal.returns-in-Tick-clause-plans
+returns-in-Tick-clause-plans g c n m at below =
+    let is_out = (g.P.Depot.state c.args.depot.now).is_out in
+    (promised_as g.D.Disk.state g.D.Disk.images n c.args.event.now (events.Net nets.Tick)
+    (is_tick c.args.event.now (sym c.in-Tick.ensures)) is_out c.tick.result c.args.self.now c.tick.new.self
+    (c.tick.ensures.promises is_out n) at).plans m below
+
+pub returns-in-Tick-clause-depot : goal.returns-in-Tick-clause-depot
+returns-in-Tick-clause-depot g c = counted_alone _ c.tick.result c.tick.ensures.apart
+
+pub returns-in-Tick-clause-sound : goal.returns-in-Tick-clause-sound
+returns-in-Tick-clause-sound g c run first built follows h out =
+    goes_on_sound g.D.Disk.state g.D.Disk.images run c.args.event.now first built follows c.requires.built _ c.args.self.now c.tick.new.self c.tick.result
+    (returns-in-Tick-clause-done g c _ (record { before = before_of run c.args.event.now first built follows; held = h; out = out }))
 
 pub ask_drop-requires : goal.ask_drop-requires
 ask_drop-requires g c =

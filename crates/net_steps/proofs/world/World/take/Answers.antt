@@ -7,7 +7,7 @@ use Rattle.net_steps.specs.Carrying.{IsOverFault}
 use Rattle.net_steps.specs.Holds.{Holds}
 use Rattle.net_steps.specs.Handing.{step_at, IsDrawn}
 use Rattle.net_steps.proofs.InTurn.{memory_over}
-use Rattle.net_steps.proofs.Handed.{drawn_by, spent_over, spent_apart, memory_drawn, send_drawn, send_apart, sends_fit, sends_short, taken_over, taken_lines, taken_holds}
+use Rattle.net_steps.proofs.Handed.{drawn_by, from_client, spent_over, spent_apart, memory_drawn, send_drawn, send_apart, sends_fit, sends_short, taken_over, taken_lines, taken_holds}
 use Rattle.net_steps.proofs.world.World.take.Goals as goal
 
 pub hand_all-requires : goal.hand_all-requires
@@ -76,7 +76,8 @@ returns-clause-held g c n x =
     let is = c.in-Ok.ensures.sent n.wire.world.stores n.wire.world.schemas n.gates x.starts x.running x.held.gates x.at in
     subst (Holds g.D.Disk.state (step_at n c.args.gate x.starts x.running c.args.way.from c.args.message.now).net) (sym c.in_ok-hand_all.ensures.same)
     (taken_holds g.D.Disk.state n c.args.gate c.args.way c.args.message.now c.args.self.now x c.in-Ok.sends is c.deliver.new.self
-    (c.in-Ok.ensures.held n.wire.world.stores n.wire.world.schemas n.gates x.starts x.running x.held.gates x.at) c.hand_all.new.self.network
+    (c.in-Ok.ensures.held n.wire.world.stores n.wire.world.schemas n.gates x.starts x.running x.held.gates x.at
+    (from_client g.D.Disk.state n c.args.gate c.args.way c.args.message.now c.args.self.now x)) c.hand_all.new.self.network
     (c.in_ok-hand_all.ensures.sent n.wire n.sent (record { wire = x.held.wire; sent = x.held.sent })
     (sends_fit g.D.Disk.state n c.args.gate c.args.way c.args.message.now c.args.self.now x c.in-Ok.sends is)).sent)
 

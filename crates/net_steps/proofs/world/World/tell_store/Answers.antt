@@ -3,7 +3,7 @@ use Rattle.std.proofs.lemmas.Result.{err_from_is_err_and}
 use Rattle.step_tables.specs.Facts as facts
 use Rattle.world_tables.specs.World.{Lucks, busy_live, hosted_by, no_lucks}
 use Rattle.message_parts.specs.Parts.{part_of}
-use Rattle.gated_tables.specs.Net.{restored, to_create, to_drop, to_store}
+use Rattle.gated_tables.specs.Net.{restored, to_create, to_drop, to_save, to_store}
 use Rattle.net_steps.proofs.Brought.{counted_apart}
 use Rattle.net_steps.proofs.Delivered.{comes_as, comes_by, memory_apart, memory_delivers, still_delivers}
 use Rattle.net_steps.proofs.Sessions.{IsToldOf, store_client, store_told, told_step}
@@ -30,6 +30,17 @@ drop_table-requires-clause-client g c =
 
 pub drop_table-requires-clause-here : goal.drop_table-requires-clause-here
 drop_table-requires-clause-here g c = let x = c.requires.coming in (x.n, x.here)
+
+pub save-requires-clause-client : goal.save-requires-clause-client
+save-requires-clause-client g c =
+    let x = c.requires.coming in
+    let k = subst IsToldOf (sym c.in-Save.ensures)
+    (store_client g.D.Disk.state (g.P.Depot.state c.args.depot.now).is_out c.args.number c.args.from c.args.self.now c.args.store x c.in_ok-found.found
+    (c.in_ok-found.ensures x.n.wire.packets x.n.sent x.here.held.sent)) in
+    record { least = k.least; most = k.most }
+
+pub save-requires-clause-here : goal.save-requires-clause-here
+save-requires-clause-here g c = let x = c.requires.coming in (x.n, x.here)
 
 pub restore-requires-clause-here : goal.restore-requires-clause-here
 restore-requires-clause-here g c = let x = c.requires.coming in ((g.P.Depot.state c.args.depot.now).is_out, x.n, x.here)
@@ -68,6 +79,16 @@ returns-in-Drop-clause-comes g c x =
     (λ lucks. store_told g.D.Disk.state is_out c.args.number c.args.from c.args.self.now c.args.store x c.in_ok-found.found
     (c.in_ok-found.ensures x.n.wire.packets x.n.sent x.here.held.sent) lucks ∙ ap (told_step x.n c.args.store x.one lucks) (sym c.in-Drop.ensures))
     c.drop_table.result (g.P.Depot.state c.drop_table.new.depot).is_out c.args.self.now c.drop_table.new.self (c.drop_table.ensures.comes x.n x.one x.here x.from_is)
+
+pub returns-in-Save-clause-comes : goal.returns-in-Save-clause-comes
+returns-in-Save-clause-comes g c x =
+    let is_out = (g.P.Depot.state c.args.depot.now).is_out in
+    let m = c.in-Save.asked in
+    comes_as g.D.Disk.state g.D.Disk.images x.n (λ lucks. to_store x.n c.args.store x.one lucks (part_of x.one.message))
+    (λ lucks. to_save x.n c.args.store x.one m lucks (hosted_by x.n.wire.world c.args.store m.table))
+    (λ lucks. store_told g.D.Disk.state is_out c.args.number c.args.from c.args.self.now c.args.store x c.in_ok-found.found
+    (c.in_ok-found.ensures x.n.wire.packets x.n.sent x.here.held.sent) lucks ∙ ap (told_step x.n c.args.store x.one lucks) (sym c.in-Save.ensures))
+    c.save.result (g.P.Depot.state c.save.new.depot).is_out c.args.self.now c.save.new.self (c.save.ensures.comes x.n x.one x.here x.from_is)
 
 pub returns-in-Restore-clause-comes : goal.returns-in-Restore-clause-comes
 returns-in-Restore-clause-comes g c x =

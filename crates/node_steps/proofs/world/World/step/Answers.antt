@@ -3,6 +3,7 @@ use Rattle.std.specs.Prelude.{IfOk, IfErr}
 use Rattle.table_model.specs.declared.event.Event.{Event}
 use Rattle.table_model.specs.declared.event.Event.TheVariants as events
 use Rattle.table_model.specs.declared.table_state.TableState.TheVariants as states
+use Rattle.step_tables.specs.Facts as facts
 use Rattle.step_tables.specs.StoreMoves.{PutState, PutSub}
 use Rattle.world_tables.specs.Faults.{is_device_fault, is_fault_answer}
 use Rattle.fault_laws.proofs.Answered.{is_declaration}
@@ -23,7 +24,7 @@ use Rattle.node_steps.proofs.Counted.{stepped, stepped_first, stepped_still, ste
 use Rattle.node_steps.proofs.Clients.{either_spent}
 use Rattle.node_steps.proofs.Rows.{any_ok, stay_left, stay_placed, stay_still}
 use Rattle.node_steps.proofs.Stepping.{memory_limit, either_limit, other_counted, memory_other, nodes_same, joins_as, plans_later, plans_kept, one_begun, least_begun, left_if, never_single}
-use Rattle.node_steps.proofs.Done.{comes_as, gate_silent}
+use Rattle.node_steps.proofs.Done.{comes_as, gate_silent, stays}
 use Rattle.node_steps.proofs.AsCalls.{as_call, spent_limit}
 use Rattle.node_steps.proofs.world.World.step.Goals as goal
 
@@ -586,4 +587,29 @@ returns-in-Gate-clause-depot g c = refl
 pub returns-in-Gate-clause-plans : goal.returns-in-Gate-clause-plans
 returns-in-Gate-clause-plans g c w n r h k =
     one_begun g.D.Disk.state w c.args.event.now n c.args.self.now (subst (λ (e : Event). may_begin w e ≡ 1) (sym c.in-Gate.is) refl)
+    (plans_later g.D.Disk.state n c.args.self.now k)
+
+pub returns-in-Net-clause-done : goal.returns-in-Net-clause-done
+returns-in-Net-clause-done g c w r h out =
+    stepped_still g.D.Disk.state g.D.Disk.images w c.args.event.now (g.P.Depot.state c.args.depot.now).is_out c.args.self.now c.args.self.now c.only.result out
+    (subst (λ (e : Event). (lucks : Lucks) → is_device_fault w e lucks ≡ false) (sym c.in-Net.is) (λ lucks. refl)) refl refl
+    (subst (λ (e : Event). Comes g.D.Disk.state w (step w e) c.only.result c.args.self.now) (sym c.in-Net.is) (stays g.D.Disk.state w c.args.self.now h facts.Done c.only.result c.only.ensures.lines))
+    (stay_still g.D.Disk.state g.D.Disk.images w r c.args.event.now c.only.result c.args.self.now c.args.self.now g.met.D.Disk.only_now h (any_ok c.only.result _ refl))
+
+pub returns-in-Net-clause-limit : goal.returns-in-Net-clause-limit
+returns-in-Net-clause-limit g c w n r h k =
+    memory_limit c.only.result c.only.ensures.memory (λ code count. (code ≡ 11) × Spends n w c.args.event.now)
+
+pub returns-in-Net-clause-left : goal.returns-in-Net-clause-left
+returns-in-Net-clause-left g c w r h out =
+    left_if c.only.result _ c.args.event.now
+    (never_left g.D.Disk.state w c.args.event.now (g.P.Depot.state c.args.depot.now).is_out c.args.self.now c.args.self.now c.only.result out c.only.ensures.memory)
+
+pub returns-in-Net-clause-depot : goal.returns-in-Net-clause-depot
+returns-in-Net-clause-depot g c =
+    other_counted c.only.result (memory_other c.only.result c.only.ensures.memory) (g.P.Depot.state c.args.depot.now).faults
+
+pub returns-in-Net-clause-plans : goal.returns-in-Net-clause-plans
+returns-in-Net-clause-plans g c w n r h k =
+    one_begun g.D.Disk.state w c.args.event.now n c.args.self.now (subst (λ (e : Event). may_begin w e ≡ 1) (sym c.in-Net.is) refl)
     (plans_later g.D.Disk.state n c.args.self.now k)

@@ -53,12 +53,16 @@ part_told : (w : World) (from : Node) (part : Part) → changes_of w from (chang
 part_told w from (Responds r) = outcome_told w from r r.outcome
 part_told w from other = refl
 
+some_same : {X : Type 0} (a b : X) → Some a ≡ Some b → a ≡ b
+some_same a b e = cc
+
 -- of the message of a packet that was read
 pub read_told : (w : World) (from sender : Node) (ps : List PartPacket) (packet : ℕ) (p : PartPacket) (message : Message) → slice_get ps packet ≡ Some p → p.from ≡ from
     → Some (sender, message) ≡ option_map read_of (slice_get ps packet) → changes_of w from (change_in message) ≡ changes_by w p.from p.part
 read_told w from sender ps packet p message at is found =
     let both : Some (sender, message) ≡ Some (read_of p) = found ∙ ap (option_map read_of) at in
-    let same : message ≡ message_at p.part = cc in
+    let pair : (sender, message) ≡ read_of p = some_same (sender, message) (read_of p) both in
+    let same : message ≡ message_at p.part = ap (λ (it : Node × Message). it.1) pair in
     ap (λ (m : Message). changes_of w from (change_in m)) same ∙ (ap (λ (f : Node). changes_of w f (change_in (message_at p.part))) (sym is) ∙ part_told w p.from p.part)
 
 -- no other part tells of one

@@ -37,4 +37,5 @@ pub mod Requested
 pub mod Notified
 pub mod Asked
 pub mod AskedLaw
+pub mod AskedEach
 pub mod Ticked

@@ -139,7 +139,7 @@ all_bytes all old new net sent more e h f g = omega arith
 pub bytes_carried : (n : Net) (w : World) (old : List PartPacket) (sent : List Sent) (outs : List PartOutbox) → bytes_of old ≤ net_bytes sent
     → bytes_of (old ++ packets_by outs) ≤ net_bytes (sent ++ sent_by (outs_of n w outs))
 bytes_carried n w old sent outs h =
-    all_bytes (bytes_of (old ++ packets_by outs)) (bytes_of old) (bytes_of (packets_by outs)) (net_bytes (sent ++ sent_by (outs_of n w outs))) (net_bytes sent) (net_bytes (sent_by (outs_of n outs)))
+    all_bytes (bytes_of (old ++ packets_by outs)) (bytes_of old) (bytes_of (packets_by outs)) (net_bytes (sent ++ sent_by (outs_of n w outs))) (net_bytes sent) (net_bytes (sent_by (outs_of n w outs)))
     (sum_by-append (λ (p : PartPacket). frame_length (message_at p.part)) old (packets_by outs)) h
     (bytes_join sent (sent_by (outs_of n w outs))) (outs_bytes n w outs)
 

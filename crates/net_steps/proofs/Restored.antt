@@ -1,6 +1,6 @@
 -- The subscriptions of a client that a Store keeps, table by table.
 use Rattle.std.proofs.Common.{◌≡◌, ℕ, zero, suc, ◌+◌, ◌≤◌, Bool, true, false, cond, List, [], ◌∷◌, ◌++◌, length, Option, Some}
-use Rattle.std.proofs.Common.{None, refl, sym, ap, subst, ◌∙◌, arith, append_assoc, append-nil, true≢false}
+use Rattle.std.proofs.Common.{None, refl, sym, ap, subst, ◌∙◌, arith, append_assoc, append-nil}
 use Rattle.std.specs.Prelude.{◌==◌, find, option_map, option_to_list, if◌then◌else◌}
 use Rattle.std.specs.List.{flat_map, range_with_len}
 use Rattle.std.specs.Ordering.{nat_cmp}
@@ -16,7 +16,6 @@ use Rattle.row_store.specs.Data as rows
 use Rattle.device_laws.specs.Stands.{stored_terms}
 use Rattle.table_model.specs.declared.message.TableSubscription.{TableSubscription}
 use Rattle.table_model.specs.declared.table_state.TableState.{TableState}
-use Rattle.table_model.specs.declared.table_state.TableState.TheVariants as states
 use Rattle.step_tables.specs.StoreMoves.{Terms}
 use Rattle.world_tables.specs.World.{World, Hosted, hosted_at, hosted_by, is_down, is_live_state, owner_of}
 use Rattle.store_node.specs.Sides.{listed}
@@ -76,53 +75,50 @@ module _ (table c : ℕ) (subs : List Sub) (held : List (ℕ × Terms)) (are : s
 -- ---- of one table
 
 module _ (w : World) (store table c : ℕ) where
-  -- a table that is there and isn't live, or one that isn't there, has none
-  pub not_live : (o : Option TableState) → IsStateOf o (hosted_by w store table) → (o ≡ Some states.Live → ⊥)
-      → [] ≡ sub_at c table (hosted_by w store table)
-  not_live o k isnt = go (hosted_by w store table) o k isnt
-    where
-      by_state : (state : TableState) → (Some state ≡ Some states.Live → ⊥) → (hosted : Hosted)
-          → [] ≡ (if is_live_state state then sub_of table (lookup (is_at (nat_cmp c)) hosted.store.disk.subs) else [])
-      by_state states.Live isnt hosted = absurd (isnt refl)
-      by_state states.Draft isnt hosted = refl
-      by_state states.Dropped isnt hosted = refl
+  abbrev subs_if : Bool → Hosted → List TableSubscription
+  subs_if b hosted = if b then sub_of table (lookup (is_at (nat_cmp c)) hosted.store.disk.subs) else []
 
-      go : (h : Option Hosted) (o : Option TableState) → IsStateOf o h → (o ≡ Some states.Live → ⊥)
-          → [] ≡ sub_at c table h
-      go None o k isnt = refl
-      go (Some hosted) None k isnt = absurd k
-      go (Some hosted) (Some state) k isnt =
-          by_state state isnt hosted
-          ∙ ap (λ (s : TableState). if is_live_state s
-          then sub_of table (lookup (is_at (nat_cmp c)) hosted.store.disk.subs) else []) (sym k.0)
-
-  -- a live one has what it lists
-  pub live_sub : IsStateOf (Some states.Live) (hosted_by w store table) → is_down w (nodes.Store store) ≡ false
-      → (subs : List Sub) → subs ≡ subs_up w table → (found : Option TableSubscription)
-      → ((held : List (ℕ × Terms)) → subs ≡ listed held
-      → option_to_list found ≡ sub_of table (lookup (is_at (nat_cmp c)) held))
-      → option_to_list found ≡ sub_at c table (hosted_by w store table)
-  live_sub k up subs are found is = by_owner (owner_of w table == store) refl k
+  -- one that isn't there
+  pub none_sub : IsStateOf None (hosted_by w store table) → [] ≡ sub_at c table (hosted_by w store table)
+  none_sub k = go (hosted_by w store table) k
     where
-      by_hosted : (h : Option Hosted) → IsStateOf (Some states.Live) h → subs ≡ subs_at h
+      go : (h : Option Hosted) → IsStateOf None h → [] ≡ sub_at c table h
+      go None k = refl
+      go (Some hosted) k = absurd k
+
+  module _ (state : TableState) (k : IsStateOf (Some state) (hosted_by w store table)) where
+    -- one that isn't live has none
+    pub not_live : is_live_state state ≡ false → [] ≡ sub_at c table (hosted_by w store table)
+    not_live dead = go (hosted_by w store table) k
+      where
+        go : (h : Option Hosted) → IsStateOf (Some state) h → [] ≡ sub_at c table h
+        go None k = absurd k
+        go (Some hosted) k = ap (λ (b : Bool). subs_if b hosted) (sym (ap is_live_state k.0 ∙ dead))
+
+    -- a live one has what it lists
+    module _ (live : is_live_state state ≡ true) (up : is_down w (nodes.Store store) ≡ false) (subs : List Sub)
+        (are : subs ≡ subs_up w table) (found : Option TableSubscription)
+        (is : (held : List (ℕ × Terms)) → subs ≡ listed held
+        → option_to_list found ≡ sub_of table (lookup (is_at (nat_cmp c)) held)) where
+      by_hosted : (h : Option Hosted) → IsStateOf (Some state) h → subs ≡ subs_at h
           → option_to_list found ≡ sub_at c table h
       by_hosted None k l = absurd k
       by_hosted (Some hosted) k l =
           is hosted.store.disk.subs l
-          ∙ ap (λ (s : TableState). if is_live_state s
-          then sub_of table (lookup (is_at (nat_cmp c)) hosted.store.disk.subs) else []) (sym k.0)
+          ∙ ap (λ (b : Bool). subs_if b hosted) (sym (ap is_live_state k.0 ∙ live))
 
       owner_up : (owner_of w table == store) ≡ true → is_down w (nodes.Store (owner_of w table)) ≡ false
       owner_up e = ap (λ (j : ℕ). is_down w (nodes.Store j)) (eqb-true (owner_of w table) store e) ∙ up
 
-      by_owner : (b : Bool) → (owner_of w table == store) ≡ b
-          → IsStateOf (Some states.Live) (if owner_of w table == store then hosted_at w table else None)
-          → option_to_list found ≡ sub_at c table (if owner_of w table == store then hosted_at w table else None)
-      by_owner true e k = rw e (by_hosted (hosted_at w table)
-          (subst (λ (b : Bool). IsStateOf (Some states.Live) (if b then hosted_at w table else None)) e k)
-          (are ∙ ap (λ (b : Bool). if b then [] else subs_at (hosted_at w table)) (owner_up e)))
-      by_owner false e k =
-          absurd (subst (λ (b : Bool). IsStateOf (Some states.Live) (if b then hosted_at w table else None)) e k)
+      pub live_sub : option_to_list found ≡ sub_at c table (hosted_by w store table)
+      live_sub = go (owner_of w table == store) owner_up k
+        where
+          go : (b : Bool) → (b ≡ true → is_down w (nodes.Store (owner_of w table)) ≡ false)
+              → IsStateOf (Some state) (if b then hosted_at w table else None)
+              → option_to_list found ≡ sub_at c table (if b then hosted_at w table else None)
+          go true up k = by_hosted (hosted_at w table) k
+              (are ∙ ap (λ (b : Bool). if b then [] else subs_at (hosted_at w table)) (up refl))
+          go false up k = absurd k
 
 -- ---- of all tables
 

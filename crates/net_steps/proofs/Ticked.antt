@@ -48,7 +48,7 @@ pub lines_then : (number : ℕ) (xs ys : List NetOutbox)
 lines_then number [] ys = ap (λ (k : ℕ). lines_from k ys) (let e : number ≡ number + 0 = omega arith in e)
 lines_then number (x ∷ xs) ys =
     let count : (number + length x.sent) + count_sent xs ≡ number + count_sent (x ∷ xs) =
-        (let both = length-append x.sent (flat_map (λ (out : NetOutbox). out.sent) xs) in omega (arith, both)) in
+    (let both = length-append x.sent (flat_map (λ (out : NetOutbox). out.sent) xs) in omega (arith, both)) in
     ap (λ (l : List Line). map FactLine x.facts ++ (sent_lines number x.sent ++ l)) (lines_then (number + length x.sent) xs ys)
     ∙ (ap (λ (k : ℕ). map FactLine x.facts ++ (sent_lines number x.sent
     ++ (lines_from (number + length x.sent) xs ++ lines_from k ys))) count
@@ -118,11 +118,6 @@ pub over_ticks : (numbers : List ℕ) (s : NetStep) (e : WorldFault) → IsOverF
 over_ticks numbers s e over = λ count ten.
     let k = ticks_of numbers s in
     subst (λ (l : List Sent). most_bytes < net_bytes l) (sym k.sent) (over_more s.net.sent k.more (over count ten))
-
-pub over_weaker : {T : Type 0} (r : Result T WorldFault) (xs ys : List Sent)
-    → ((e : WorldFault) → IsOverFault xs e → IsOverFault ys e) → IfErr r (IsOverFault xs) → IfErr r (IsOverFault ys)
-over_weaker (Ok x) xs ys f k = tt
-over_weaker (Err e) xs ys f k = f e k
 
 -- ---- a gateway that is up
 
@@ -202,7 +197,7 @@ module _ {D : Type 0} (state : D → DiskState) (n : Net) (s : NetStep) (lines :
             let sum = length-append s.net.sent (all_from (nodes.Gate gate) (ticked running).sends) in
             let so = x.sent in
             let more = count_then s.outs
-                (record { facts = []; sent = all_from (nodes.Gate gate) (ticked running).sends }) in
+            (record { facts = []; sent = all_from (nodes.Gate gate) (ticked running).sends }) in
             omega (arith, sum, so, more);
       }
 

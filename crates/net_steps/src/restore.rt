@@ -1,5 +1,5 @@
 //! A gateway asks a Store for the subscriptions that it has kept of a client.
-ghost use Rattle.std.specs.Prelude.{◌≡◌, ◌++◌, ◌==◌, ℕ, Bool, List, None, [], ◌∷◌, option_copied, option_to_list};
+ghost use Rattle.std.specs.Prelude.{◌≡◌, ◌++◌, ◌==◌, ℕ, Bool, List, None, Some, [], ◌∷◌, option_copied, option_to_list};
 ghost use Rattle.std.specs.Prelude.{find, IfOk, IfErr, OnOk};
 ghost use Rattle.std.specs.Ordering.{nat_cmp};
 ghost use Rattle.std.specs.Map.{lookup};
@@ -12,8 +12,9 @@ ghost use Rattle.world_tables.specs.World.{busy_live, hosted_by};
 ghost use Rattle.store_node.specs.Sides.{listed};
 ghost use Rattle.gated_tables.specs.Net.{Net, Sent, restored, restoring, sending, sub_at, sub_of, subs_of_client};
 ghost use Rattle.node_steps.specs.declared.fault.WorldFault.TheVariants.{Memory};
-ghost use Rattle.net_steps.specs.Delivering.{Delivers, IsUpIn};
+ghost use Rattle.net_steps.specs.Delivering.{Delivers, IsStateOf, IsUpIn};
 
+use crate::tables::is_live;
 use crate::world::World;
 use disk_trait::Disk;
 use node_steps::{Lines, WorldFault};
@@ -59,7 +60,28 @@ fn add(
 }
 
 impl<D: Disk + Drop> World<D> {
-    // A client's subscription to a live table of a Store that is up.
+    // A client's subscription to a table that is in this state, where that is live.
+    fn live_sub(
+        &self,
+        table: TableNo,
+        client: ClientNo,
+        state: TableState,
+    ) -> Result<Option<TableSubscription>, WorldFault>
+        requires here { (is_out : ℕ → Bool) × (store : ℕ) × (n : Net)
+            × IsUpIn D.state is_out (nodes.Store store) n self.now }
+        ensures kept { (is_out : ℕ → Bool) (store : ℕ) (n : Net) → IsUpIn D.state is_out (nodes.Store store) n self.now
+            → IsStateOf (Some state) (hosted_by n.wire.world store table) → IfOk result (λ found.
+            option_to_list found ≡ sub_at client table (hosted_by n.wire.world store table)) }
+        ensures memory { IfErr result (λ e. e ≡ Memory) }
+    {
+        if !is_live(state) {
+            return Ok(None);
+        }
+        let subs = self.wire.subs(table)?;
+        Ok(subscription_in(table, subs.as_slice(), client))
+    }
+
+    // Its subscription to a table that this Store, which is up, keeps.
     fn kept_sub(
         &self,
         store: StoreNo,
@@ -73,11 +95,8 @@ impl<D: Disk + Drop> World<D> {
         ensures memory { IfErr result (λ e. e ≡ Memory) }
     {
         match self.state_by(store, table) {
-            Some(TableState::Live) => {
-                let subs = self.wire.subs(table)?;
-                Ok(subscription_in(table, subs.as_slice(), client))
-            }
-            _ => Ok(None),
+            Some(state) => self.live_sub(table, client, state),
+            None => Ok(None),
         }
     }
 

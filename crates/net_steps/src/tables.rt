@@ -44,7 +44,8 @@ pub(crate) enum Told {
     Nothing,
 }
 
-fn is_live(state: TableState) -> bool
+/// Whether a table is live.
+pub(crate) fn is_live(state: TableState) -> bool
     ensures { result ≡ is_live_state state }
 {
     match state {

@@ -15,9 +15,12 @@ refuse_busy_table-requires g c = let k = c.requires.here in (k.0.wire, k.1.held.
 
 pub save_by-requires-clause-here : goal.save_by-requires-clause-here
 save_by-requires-clause-here g c =
-    let k = c.requires.here in
-    (k.0, k.1, asks_here k.0 c.args.store c.args.asked.table c.args.state k.2 g.D.Disk.state c.args.self.now k.1.held
-    c.args.asked.client c.requires.client)
+    let k = c.requires.here in (
+      k.0,
+      k.1,
+      asks_here k.0 c.args.store c.args.asked.table c.args.state k.2 g.D.Disk.state c.args.self.now k.1.held
+          c.args.asked.client c.requires.client,
+    )
 
 pub returns-in_err-found-clause-comes : goal.returns-in_err-found-clause-comes
 returns-in_err-found-clause-comes g c n p x k from =

@@ -13,8 +13,13 @@ kept_subs-requires g c = record { here = c.requires.here }
 pub send-requires : goal.send-requires
 send-requires g c =
     let k = c.requires.here in
-    record { short = (c.requires.client, subst (λ (l : List TableSubscription). length l ≤ 64)
-        (sym (c.in_ok-subscriptions.ensures.kept k.0 k.1 k.2)) (few_kept k.1.wire.world c.args.store c.args.asked.client)) }
+    record {
+      short = (
+        c.requires.client,
+        subst (λ (l : List TableSubscription). length l ≤ 64)
+            (sym (c.in_ok-subscriptions.ensures.kept k.0 k.1 k.2)) (few_kept k.1.wire.world c.args.store c.args.asked.client),
+      );
+    }
 
 pub returns-in_err-lines : goal.returns-in_err-lines
 returns-in_err-lines g c is_out n p x from =

@@ -14,8 +14,13 @@ use Rattle.net_steps.proofs.world.World.tick.Goals as goal
 pub tick_all-requires : goal.tick_all-requires
 tick_all-requires g c =
     let k = c.requires.held in
-    record { here = (k.1, still k.1 facts.Done,
-        first_ticking g.D.Disk.state k.1 c.in_ok-lines.lines c.args.self.now k.2.held c.in_ok-lines.ensures.lines) }
+    record {
+      here = (
+        k.1,
+        still k.1 facts.Done,
+        first_ticking g.D.Disk.state k.1 c.in_ok-lines.lines c.args.self.now k.2.held c.in_ok-lines.ensures.lines,
+      );
+    }
 
 pub returns-in_err-gates-clause-promises : goal.returns-in_err-gates-clause-promises
 returns-in_err-gates-clause-promises g c is_out n at =

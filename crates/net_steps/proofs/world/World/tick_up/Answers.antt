@@ -1,12 +1,13 @@
 use Rattle.std.proofs.Common.{◌++◌, refl, ap}
-use Rattle.std.proofs.lemmas.Result.{err_from_is_err_and, on_ok_weaker}
+use Rattle.std.proofs.lemmas.Result.{IfErr-weaker, err_from_is_err_and, on_ok_weaker}
 use Rattle.stab_base.specs.declared.node.Node.TheVariants as nodes
 use Rattle.gated_tables.specs.Net.{gate_at, gate_ticks}
+use Rattle.net_steps.specs.Carrying.{IsOverFault}
 use Rattle.net_steps.specs.Handing.{all_from}
 use Rattle.net_steps.proofs.Delivered.{send_memory}
 use Rattle.net_steps.proofs.Directories.{up_there}
 use Rattle.net_steps.proofs.InTurn.{memory_over}
-use Rattle.net_steps.proofs.Ticked.{over_weaker, tick_done, tick_fits, tick_over, tick_short}
+use Rattle.net_steps.proofs.Ticked.{tick_done, tick_fits, tick_over, tick_short}
 use Rattle.net_steps.proofs.world.World.tick_up.Goals as goal
 
 pub hand_all-requires : goal.hand_all-requires
@@ -16,8 +17,10 @@ hand_all-requires g c =
     let x = c.requires.here.2 in
     let w = s.net.wire.world in
     let r = up_there w.stores w.schemas s.net.gates c.args.self.now.gates c.args.gate x.held.gates c.requires.up in
-    record { short = tick_short g.D.Disk.state n s c.args.lines.now c.args.self.now x c.args.gate r.0 r.1 r.2 c.in_ok-sends.sends
-        (c.in_ok-sends.ensures.sent w.stores w.schemas s.net.gates r.0 r.1 x.held.gates r.2) }
+    record {
+      short = tick_short g.D.Disk.state n s c.args.lines.now c.args.self.now x c.args.gate r.0 r.1 r.2 c.in_ok-sends.sends
+          (c.in_ok-sends.ensures.sent w.stores w.schemas s.net.gates r.0 r.1 x.held.gates r.2);
+    }
 
 pub returns-in_err-sends-clause-over : goal.returns-in_err-sends-clause-over
 returns-in_err-sends-clause-over g c n s x =
@@ -47,8 +50,8 @@ returns-clause-over g c n s x =
     let w = s.net.wire.world in
     let r = up_there w.stores w.schemas s.net.gates c.args.self.now.gates c.args.gate x.held.gates c.requires.up in
     let is = c.in_ok-sends.ensures.sent w.stores w.schemas s.net.gates r.0 r.1 x.held.gates r.2 in
-    over_weaker c.hand_all.result (s.net.sent ++ all_from (nodes.Gate c.args.gate) c.in_ok-sends.sends)
-    (gate_ticks c.args.gate (gate_at s.net c.args.gate) s).net.sent
+    IfErr-weaker c.hand_all.result (IsOverFault (s.net.sent ++ all_from (nodes.Gate c.args.gate) c.in_ok-sends.sends))
+    (IsOverFault (gate_ticks c.args.gate (gate_at s.net c.args.gate) s).net.sent)
     (tick_over g.D.Disk.state n s c.args.lines.now c.args.self.now x c.args.gate r.0 r.1 r.2 c.in_ok-sends.sends is)
     (c.hand_all.ensures.over s.net.wire s.net.sent (record { wire = x.held.wire; sent = x.held.sent })
     (tick_fits g.D.Disk.state n s c.args.lines.now c.args.self.now x c.args.gate r.0 r.1 r.2 c.in_ok-sends.sends is))

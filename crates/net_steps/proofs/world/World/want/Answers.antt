@@ -17,12 +17,11 @@ use Rattle.net_steps.proofs.world.World.want.Goals as goal
 pub want_up-requires-clause-here : goal.want_up-requires-clause-here
 want_up-requires-clause-here g c =
     let k = c.requires.held in
-    let up = sym (c.is_down.ensures k.1.wire k.2.held.wire) ∙ c.if-is_down.false in
-    (
-        k.0,
-        k.1,
-        at_up g.D.Disk.state k.0 (events.Net (want_of c.args.client c.args.table c.args.wanted)) c.args.client k.1 c.args.self.now k.2 up,
-        there_of _ c.has_client.result (c.has_client.ensures k.1.wire k.2.held.wire) (ap not c.if-not-has_client.false),
+    let up = sym (c.is_down.ensures k.1.wire k.2.held.wire) ∙ c.if-is_down.false in (
+      k.0,
+      k.1,
+      at_up g.D.Disk.state k.0 (events.Net (want_of c.args.client c.args.table c.args.wanted)) c.args.client k.1 c.args.self.now k.2 up,
+      there_of _ c.has_client.result (c.has_client.ensures k.1.wire k.2.held.wire) (ap not c.if-not-has_client.false),
     )
 
 pub returns-then-not-has_client-clause-promises : goal.returns-then-not-has_client-clause-promises

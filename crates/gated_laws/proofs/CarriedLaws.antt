@@ -1,5 +1,5 @@
 -- Turns that are carried resolve as it was asked for, tell the same phases and histories, and list as much.
-use Rattle.std.proofs.Common.{◌≡◌, ⊎_elim, ℕ, Bool, true, false, List, [], ◌∷◌, ◌++◌, Option, Some, None, refl, sym, ◌∙◌, ap, subst, append-nil}
+use Rattle.std.proofs.Common.{◌≡◌, ⊎_elim, ℕ, Bool, true, false, List, [], ◌∷◌, ◌++◌, Option, Some, None, refl, sym, ◌∙◌, ap, subst}
 use Rattle.std.specs.Prelude.{◌&&◌, not, map, slice_get, if◌then◌else◌}
 use Rattle.std.specs.List.{AllByRecursion}
 use Rattle.stab_base.specs.declared.node.Node.{Node}
@@ -21,12 +21,9 @@ use Rattle.world_laws.proofs.Lines.{hear-append}
 use Rattle.asked_laws.specs.Asked.{Asked, nothing_asked, answered_asked, line_asked, lines_asked, LinesAsked, AskedFrom, AreAsked}
 use Rattle.asked_laws.specs.Phases.{has_fault, is_of, goes_to, goes_down, phase_by, phase_from, has_phase}
 use Rattle.wire_laws.proofs.TurnsAlike.{IsQuieter, more_comes, deliver_comes, loud_same, held_same, stores_same, listed_same}
-use Rattle.gated_laws.specs.Carried.{is_sent, IsNoGate, IsEventCarried, IsTurnCarried, IsLone, IsLinkTurn, AreCarriedFrom, AreCarried}
+use Rattle.gated_laws.specs.Carried.{is_own, IsNoGate, IsEventCarried, IsTurnCarried, IsLone, IsBeside, AreCarriedFrom, AreCarried}
 use Rattle.gated_laws.proofs.CarriedLines.{hear_carried, asked_carried, asked_so, answer_carried}
-use Rattle.gated_laws.proofs.CarriedTurns.{by_turns, by_brought, events_of, schemas_carried, IsOnlyAnswer, lone_only, only_heard}
-
-link_turn : (turn : Turn) → IsLinkTurn turn → (P : Turn → Type 0) → P turn → (c : ℕ) × (up : Bool) × P (record { event = events.Link c up; lines = AnswerLine facts.Done ∷ [] })
-link_turn turn l P p = (l.0, l.1, subst P l.2 p)
+use Rattle.gated_laws.proofs.CarriedTurns.{by_turns, by_brought, events_of, schemas_carried, IsOnlyAnswer, lone_only, beside_only, only_heard}
 
 -- ---- what is resolved was asked for
 
@@ -39,7 +36,8 @@ event_same : (sent whole : List Node) (event other : Event) → IsEventCarried s
 event_same sent whole (events.Deliver k) other e line a =
     by_brought (λ (x : Event). line_asked (events.Deliver k) line a ≡ line_asked x line a) whole e.0 (λ n at. line_same (events.Deliver k) (events.Deliver n) (λ answer b. refl) line a)
     (λ table. line_same (events.Deliver k) (events.Create e.0 table) (λ answer b. refl) line a) (λ table. line_same (events.Deliver k) (events.Drop e.0 table) (λ answer b. refl) line a)
-    (λ store table client terms at. line_same (events.Deliver k) (events.Save store table client terms) (λ answer b. refl) line a) other e.3
+    (λ store table client terms at. line_same (events.Deliver k) (events.Save store table client terms) (λ answer b. refl) line a)
+    (λ client table at. line_same (events.Deliver k) (events.Ask client table) (λ answer b. refl) line a) other e.3
 event_same sent whole (events.Create node table) other e line a = absurd e
 event_same sent whole (events.Client c gate tables) other e line a =
     line_same (events.Client c gate tables) (events.Client c None tables) (λ answer b. refl) line a ∙ ap (λ (x : Event). line_asked x line a) (sym e)
@@ -54,18 +52,22 @@ lone_asks (events.Resolve c table row seen choice) lines is answer a = absurd is
 lone_asks (events.ResolveAll c table by) lines is answer a = absurd is
 lone_asks other lines is answer a = refl
 
+beside_asks : (event : Event) (lines : List Line) → IsBeside event lines → (answer : Answer) (a : Asked) → answered_asked event answer a ≡ a
+beside_asks (events.Resolve c table row seen choice) lines is answer a = absurd is
+beside_asks (events.ResolveAll c table by) lines is answer a = absurd is
+beside_asks other lines is answer a = refl
+
 -- packets ask for nothing
-sent_asks : (event : Event) (told : List Fact) → AllByRecursion (λ (fact : Fact). is_sent fact ≡ true) told → (a : Asked)
+sent_asks : (event : Event) (told : List Fact) → AllByRecursion (λ (fact : Fact). is_own fact ≡ true) told → (a : Asked)
     → (lines_asked event (map FactLine told) a ≡ a) × LinesAsked event a (map FactLine told)
 sent_asks event [] all a = (refl, tt)
 sent_asks event (facts.Sent k from to name ∷ told) all a = let rest = sent_asks event told all.1 a in (rest.0, (tt, rest.1))
 sent_asks event (facts.Saved table ∷ told) all a = let rest = sent_asks event told all.1 a in (rest.0, (tt, rest.1))
+sent_asks event (facts.Notified c bits ∷ told) all a = let rest = sent_asks event told all.1 a in (rest.0, (tt, rest.1))
 sent_asks event (other ∷ told) all a = absurd (let e : false ≡ true = all.0 in cc)
 
-only_asks : (event : Event) (lines : List Line) → IsLone event lines → (a : Asked) → (lines_asked event lines a ≡ a) × LinesAsked event a lines
-only_asks event lines is a =
-    let o : IsOnlyAnswer event lines = lone_only event lines is in
-    let same : answered_asked event o.answer a ≡ a = lone_asks event lines is o.answer a in
+only_asks : (event : Event) (lines : List Line) (o : IsOnlyAnswer event lines) (a : Asked) → answered_asked event o.answer a ≡ a → (lines_asked event lines a ≡ a) × LinesAsked event a lines
+only_asks event lines o a same =
     let rest = sent_asks event o.told o.sent a in (
       ap (λ (l : List Line). lines_asked event l a) o.lines_are ∙ (ap (lines_asked event (map FactLine o.told)) same ∙ rest.0),
       subst (LinesAsked event a) (sym o.lines_are) (tt, subst (λ (b : Asked). LinesAsked event b (map FactLine o.told)) (sym same) rest.1),
@@ -74,9 +76,12 @@ only_asks event lines is a =
 asked_from : (turns others : List Turn) (sent whole : List Node) → AreCarriedFrom sent whole turns others → (a : Asked) → AskedFrom a others → AskedFrom a turns
 asked_from turns others sent whole is =
     by_turns (λ (s w : List Node) (xs ys : List Turn). (a : Asked) → AskedFrom a ys → AskedFrom a xs) (λ s w a k. k)
-    (λ s w turn xs ys l p a k. p a (link_turn turn l (λ (t : Turn). AskedFrom a (t ∷ ys)) k).2.1)
     (λ s w turn xs ys l p a k.
-    let one = only_asks turn.event turn.lines l a in
+    let o : IsOnlyAnswer turn.event turn.lines = beside_only turn.event turn.lines l in
+    p a (subst (λ (b : Asked). AskedFrom b ys) (only_asks turn.event turn.lines o a (beside_asks turn.event turn.lines l o.answer a)).0 k.1))
+    (λ s w turn xs ys l p a k.
+    let o : IsOnlyAnswer turn.event turn.lines = lone_only turn.event turn.lines l in
+    let one = only_asks turn.event turn.lines o a (lone_asks turn.event turn.lines l o.answer a) in
     (one.1, subst (λ (b : Asked). AskedFrom b xs) (sym one.0) (p a k)))
     (λ s w turn other xs ys e p a k.
     let same = event_same s w turn.event other.event e.event in (
@@ -96,7 +101,8 @@ module _ (c t : ℕ) where
       by_brought (λ (x : Event). goes_down c sent (events.Deliver k) answer ≡ goes_down c whole x answer) whole e.0
       (λ n at. ap (λ (to : Option Node). has_fault answer && goes_to c to) (e.2 ∙ sym at)) (λ table. ap (λ (to : Option Node). has_fault answer && goes_to c to) e.2)
       (λ table. ap (λ (to : Option Node). has_fault answer && goes_to c to) e.2)
-      (λ store table client terms at. ap (λ (to : Option Node). has_fault answer && goes_to c to) (e.2 ∙ ap (λ (x : Node). Some x) (sym at))) other e.3
+      (λ store table client terms at. ap (λ (to : Option Node). has_fault answer && goes_to c to) (e.2 ∙ ap (λ (x : Node). Some x) (sym at)))
+      (λ client table at. ap (λ (to : Option Node). has_fault answer && goes_to c to) (e.2 ∙ ap (λ (x : Node). Some x) (sym at))) other e.3
   down_carried sent whole (events.Create node table) other answer e = absurd e
   down_carried sent whole (events.Client d gate tables) other answer e = ap (λ (x : Event). goes_down c whole x answer) (sym e)
   down_carried sent whole (events.Work (nodes.Gate n)) other answer e = absurd e
@@ -109,7 +115,7 @@ module _ (c t : ℕ) where
       → phase_by c t event answer before ≡ phase_by c t other answer before
   phase_carried sent whole (events.Deliver k) other answer before e =
       by_brought (λ (x : Event). phase_by c t (events.Deliver k) answer before ≡ phase_by c t x answer before) whole e.0 (λ n at. refl) (λ table. refl) (λ table. refl)
-      (λ store table client terms at. refl) other e.3
+      (λ store table client terms at. refl) (λ client table at. refl) other e.3
   phase_carried sent whole (events.Create node table) other answer before e = absurd e
   phase_carried sent whole (events.Client d gate tables) other answer before e = ap (λ (x : Event). phase_by c t x answer before) (sym e)
   phase_carried sent whole (events.Work (nodes.Gate n)) other answer before e = absurd e
@@ -137,16 +143,25 @@ module _ (c t : ℕ) where
       ap (λ (l : List Line). next_phase sent event (answer_in l) before) o.lines_are
       ∙ (ap (λ (b : Bool). not b && phase_by c t event (Some o.answer) before) (lone_down sent event lines o.answer is o.fault) ∙ lone_by event lines (Some o.answer) before is)
 
-  link_phase : (sent : List Node) (turn : Turn) (before : Bool) → IsLinkTurn turn → (sent ++ sent_in turn.lines ≡ sent) × (next_phase sent turn.event (answer_in turn.lines) before ≡ before)
-  link_phase sent turn before l =
-      (ap (λ (x : Turn). sent ++ sent_in x.lines) l.2 ∙ append-nil sent, ap (λ (x : Turn). next_phase sent x.event (answer_in x.lines) before) l.2)
+  beside_down : (sent : List Node) (event : Event) (lines : List Line) (answer : Answer) → IsBeside event lines → has_fault (Some answer) ≡ false → goes_down c sent event (Some answer) ≡ false
+  beside_down sent (events.Crash node calls pick) lines answer is fault = absurd is
+  beside_down sent other lines answer is fault = ap (λ (b : Bool). b && is_of c sent other) fault
+
+  beside_by : (event : Event) (lines : List Line) (answer : Option Answer) (before : Bool) → IsBeside event lines → phase_by c t event answer before ≡ before
+  beside_by (events.BeginCr client table) lines answer before is = absurd is
+  beside_by (events.EndCr client table) lines answer before is = absurd is
+  beside_by other lines answer before is = refl
+
+  beside_phase : (sent : List Node) (event : Event) (lines : List Line) (before : Bool) → IsBeside event lines → next_phase sent event (answer_in lines) before ≡ before
+  beside_phase sent event lines before is =
+      let o : IsOnlyAnswer event lines = beside_only event lines is in
+      ap (λ (l : List Line). next_phase sent event (answer_in l) before) o.lines_are
+      ∙ (ap (λ (b : Bool). not b && phase_by c t event (Some o.answer) before) (beside_down sent event lines o.answer is o.fault) ∙ beside_by event lines (Some o.answer) before is)
 
   phases_from : (turns others : List Turn) (sent whole : List Node) → AreCarriedFrom sent whole turns others → (before : Bool) → phase_from c t sent before turns ≡ phase_from c t whole before others
   phases_from turns others sent whole is =
       by_turns (λ (s w : List Node) (xs ys : List Turn). (before : Bool) → phase_from c t s before xs ≡ phase_from c t w before ys) (λ s w before. refl)
-      (λ s w turn xs ys l p before.
-      let one = link_phase w turn before l in
-      p before ∙ (ap (λ (ns : List Node). phase_from c t ns before ys) (sym one.0) ∙ ap (λ (b : Bool). phase_from c t (w ++ sent_in turn.lines) b ys) (sym one.1)))
+      (λ s w turn xs ys l p before. p before ∙ ap (λ (b : Bool). phase_from c t (w ++ sent_in turn.lines) b ys) (sym (beside_phase w turn.event turn.lines before l)))
       (λ s w turn xs ys l p before. ap (λ (b : Bool). phase_from c t (s ++ sent_in turn.lines) b xs) (lone_phase s turn.event turn.lines before l) ∙ p before)
       (λ s w turn other xs ys e p before.
       p (next_phase s turn.event (answer_in turn.lines) before)
@@ -168,7 +183,10 @@ any_scheme table = Eventual
 heard_from : (turns others : List Turn) (sent whole : List Node) → AreCarriedFrom sent whole turns others → (s : Said) → hear_lines s (transcript_of turns) ≡ hear_lines s (transcript_of others)
 heard_from turns others sent whole is =
     by_turns (λ (a b : List Node) (xs ys : List Turn). (s : Said) → hear_lines s (transcript_of xs) ≡ hear_lines s (transcript_of ys)) (λ a b s. refl)
-    (λ a b turn xs ys l p s. p s ∙ ap (λ (x : Turn). hear_lines s (x.lines ++ transcript_of ys)) (sym l.2))
+    (λ a b turn xs ys l p s.
+    p s
+    ∙ sym (hear-append any_scheme s turn.lines (transcript_of ys)
+    ∙ ap (λ (x : Said). hear_lines x (transcript_of ys)) (only_heard s turn.event turn.lines (beside_only turn.event turn.lines l))))
     (λ a b turn xs ys l p s.
     hear-append any_scheme s turn.lines (transcript_of xs)
     ∙ (ap (λ (x : Said). hear_lines x (transcript_of xs)) (only_heard s turn.event turn.lines (lone_only turn.event turn.lines l)) ∙ p s))
@@ -206,7 +224,8 @@ module _ (sent whole : List Node) (q r : Quiet) (a : IsLouder sent whole q r) wh
   -- ---- both
 
   stores_carried : (event other : Event) → IsEventCarried sent whole event other → stores_after q event ≡ stores_after r other
-  stores_carried (events.Deliver k) other e = by_brought (λ (x : Event). q.stores ≡ stores_after r x) whole e.0 (λ n at. b.stores) (λ table. b.stores) (λ table. b.stores) (λ store table client terms at. b.stores) other e.3
+  stores_carried (events.Deliver k) other e = by_brought (λ (x : Event). q.stores ≡ stores_after r x) whole e.0 (λ n at. b.stores) (λ table. b.stores) (λ table. b.stores) (λ store table client terms at. b.stores)
+      (λ client table at. b.stores) other e.3
   stores_carried (events.Create node table) other e = absurd e
   stores_carried (events.Client c gate tables) other e = b.stores ∙ ap (stores_after r) (sym e)
   stores_carried (events.Work (nodes.Gate n)) other e = absurd e
@@ -216,7 +235,8 @@ module _ (sent whole : List Node) (q r : Quiet) (a : IsLouder sent whole q r) wh
   stores_carried event other e = stores_same sent whole q r b event ∙ ap (stores_after r) (sym e)
 
   held_carried : (event other : Event) (answer : Option Answer) → IsEventCarried sent whole event other → held_after q event answer ≡ held_after r other answer
-  held_carried (events.Deliver k) other answer e = by_brought (λ (x : Event). q.held ≡ held_after r x answer) whole e.0 (λ n at. b.held) (λ table. b.held) (λ table. b.held) (λ store table client terms at. b.held) other e.3
+  held_carried (events.Deliver k) other answer e = by_brought (λ (x : Event). q.held ≡ held_after r x answer) whole e.0 (λ n at. b.held) (λ table. b.held) (λ table. b.held) (λ store table client terms at. b.held)
+      (λ client table at. b.held) other e.3
   held_carried (events.Create node table) other answer e = absurd e
   held_carried (events.Client c gate tables) other answer e = b.held ∙ ap (λ (x : Event). held_after r x answer) (sym e)
   held_carried (events.Work (nodes.Gate n)) other answer e = absurd e
@@ -229,7 +249,8 @@ module _ (sent whole : List Node) (q r : Quiet) (a : IsLouder sent whole q r) wh
   loud_carried (events.Deliver k) other answer x e m =
       by_brought (λ (y : Event). Among (loud_after r y answer) x → Among (loud_after q (events.Deliver k) answer) x) whole e.0 (λ n at. deliver_comes sent whole q r b k n x (at ∙ sym e.2))
       (λ table more. more_comes sent whole q r b (slice_get q.sent k) x (b.loud x more)) (λ table more. more_comes sent whole q r b (slice_get q.sent k) x (b.loud x more))
-      (λ store table client terms at more. more_comes sent whole q r b (slice_get q.sent k) x (b.loud x more)) other e.3 m
+      (λ store table client terms at more. more_comes sent whole q r b (slice_get q.sent k) x (b.loud x more))
+      (λ client table at more. more_comes sent whole q r b (slice_get q.sent k) x (b.loud x more)) other e.3 m
   loud_carried (events.Create node table) other answer x e m = absurd e
   loud_carried (events.Client c gate tables) other answer x e m = b.loud x (subst (λ (y : Event). Among (loud_after r y answer) x) e m)
   loud_carried (events.Work (nodes.Gate n)) other answer x e m = absurd e
@@ -258,7 +279,7 @@ module _ (sent whole : List Node) (q r : Quiet) (a : IsLouder sent whole q r) wh
   gates_carried (events.Deliver k) other answer e =
       by_brought (λ (x : Event). NoGates (loud_after r x answer)) whole e.0
       (λ n at. subst (λ (o : Option Node). NoGates (comes_to r o)) (sym (ap (λ (ns : List Node). slice_get ns n) b.whole_is ∙ at)) (comes_no_gates e.0 e.1)) (λ table. a.gates) (λ table. a.gates)
-      (λ store table client terms at. a.gates) other e.3
+      (λ store table client terms at. a.gates) (λ client table at. a.gates) other e.3
   gates_carried (events.Create node table) other answer e = absurd e
   gates_carried (events.Client c gate tables) other answer e = subst (λ (x : Event). NoGates (loud_after r x answer)) (sym e) a.gates
   gates_carried (events.Work (nodes.Gate n)) other answer e = absurd e
@@ -286,13 +307,37 @@ module _ (sent whole : List Node) (q r : Quiet) (a : IsLouder sent whole q r) wh
         gates = gates_carried turn.event other.event (answer_in other.lines) e.event;
       }
 
-  -- ---- a link of the wire
+  -- ---- a turn that the wire has besides
 
-  louder_link : (turn : Turn) → IsLinkTurn turn → IsLouder sent whole q (after r turn)
-  louder_link turn l = subst (λ (t : Turn). IsLouder sent whole q (after r t)) (sym l.2) (record {
-    quieter = record { stores = b.stores; held = b.held; loud = b.loud; sent_is = b.sent_is; whole_is = append-nil r.sent ∙ b.whole_is };
-    gates = a.gates;
-  })
+  beside_stores : (event : Event) (lines : List Line) → IsBeside event lines → stores_after r event ≡ r.stores
+  beside_stores (events.Store number) lines is = absurd is
+  beside_stores other lines is = refl
+
+  beside_held : (event : Event) (lines : List Line) (answer : Option Answer) → IsBeside event lines → held_after r event answer ≡ r.held
+  beside_held (events.Hold node) lines answer is = absurd is
+  beside_held (events.Free node) lines answer is = absurd is
+  beside_held other lines answer is = refl
+
+  beside_loud : (event : Event) (lines : List Line) (answer : Option Answer) → IsBeside event lines → loud_after r event answer ≡ r.loud
+  beside_loud (events.Deliver packet) lines answer is = absurd is
+  beside_loud (events.Start node) lines answer is = absurd is
+  beside_loud (events.WorkAll node) lines answer is = absurd is
+  beside_loud (events.Store number) lines answer is = absurd is
+  beside_loud other lines answer is = refl
+
+  louder_beside : (turn : Turn) → IsBeside turn.event turn.lines → IsLouder sent (whole ++ sent_in turn.lines) q (after r turn)
+  louder_beside turn l =
+      let same : loud_after r turn.event (answer_in turn.lines) ≡ r.loud = beside_loud turn.event turn.lines (answer_in turn.lines) l in
+      record {
+        quieter = record {
+          stores = b.stores ∙ sym (beside_stores turn.event turn.lines l);
+          held = b.held ∙ sym (beside_held turn.event turn.lines (answer_in turn.lines) l);
+          loud = λ x m. b.loud x (subst (λ (some : List Node). Among some x) same m);
+          sent_is = b.sent_is;
+          whole_is = ap (λ (ns : List Node). ns ++ sent_in turn.lines) b.whole_is;
+        };
+        gates = subst NoGates (sym same) a.gates;
+      }
 
   -- ---- a turn that no wire has
 
@@ -361,8 +406,8 @@ listed_from : (schemas : ℕ → Option Schema) (turns others : List Turn) (sent
 listed_from schemas turns others sent whole is =
     by_turns (λ (sent whole : List Node) (xs ys : List Turn). (s : Said) (q r : Quiet) → IsLouder sent whole q r → AreListedFrom schemas s r ys → AreListedFrom schemas s q xs)
     (λ sent whole s q r a k. tt)
-    (λ sent whole turn xs ys l p s q r a k. p s q (after r turn) (louder_link sent whole q r a turn l)
-    (subst (λ (x : Said). AreListedFrom schemas x (after r turn) ys) (ap (λ (t : Turn). hear_lines s t.lines) l.2) k.1))
+    (λ sent whole turn xs ys l p s q r a k. p s q (after r turn) (louder_beside sent whole q r a turn l)
+    (subst (λ (x : Said). AreListedFrom schemas x (after r turn) ys) (only_heard s turn.event turn.lines (beside_only turn.event turn.lines l)) k.1))
     (λ sent whole turn xs ys l p s q r a k. (
       lone_listed schemas s q turn.event (answer_in turn.lines) turn.lines l,
       subst (λ (x : Said). AreListedFrom schemas x (after q turn) xs) (sym (only_heard s turn.event turn.lines (lone_only turn.event turn.lines l)))

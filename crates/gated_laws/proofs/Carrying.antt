@@ -1,8 +1,9 @@
 -- What each event with gateways carries of the wire.
-use Rattle.std.proofs.Common.{◌≡◌, ◌≤◌, inl, inr, ⊎_elim, ℕ, ◌+◌, arith, Bool, true, false, List, [], ◌∷◌, length, Option, Some, None, refl, sym, ◌∙◌, ap, subst, true≢false}
+use Rattle.std.proofs.Common.{◌≡◌, ◌≤◌, inl, inr, ⊎_elim, ℕ, ◌+◌, arith, Bool, true, false, List, [], ◌∷◌, length, Option, Some, None, refl, sym, ◌∙◌, ap, subst, append-nil, true≢false}
 use Rattle.std.specs.Prelude.{◌==◌, ◌&&◌, nat_le, map, slice_get, is_some, option_map, if◌then◌else◌}
 use Rattle.std.specs.Ordering.{nat_cmp}
-use Rattle.std.specs.BTreeMap.{insert_entry}
+use Rattle.std.specs.Map.{lookup}
+use Rattle.std.specs.BTreeMap.{is_at, insert_entry}
 use Rattle.std.proofs.lemmas.Bool.{and_parts}
 use Rattle.std.proofs.lemmas.Bool.Decides.{nat_tests}
 use Rattle.std.proofs.lemmas.Option.{slice_get-map}
@@ -11,6 +12,8 @@ use Rattle.stab_base.specs.declared.node.Node.TheVariants as nodes
 use Rattle.stab_base.specs.declared.step.Step.TheVariants as steps
 use Rattle.table_model.specs.declared.event.Event.{Event}
 use Rattle.table_model.specs.declared.event.Event.TheVariants as events
+use Rattle.table_model.specs.declared.event.NetEvent.{NetEvent}
+use Rattle.table_model.specs.declared.event.NetEvent.TheVariants as nets
 use Rattle.table_model.specs.declared.message.Message.{Message}
 use Rattle.table_model.specs.declared.message.Message.TheVariants as kinds
 use Rattle.table_model.specs.declared.message.CreateTable.{CreateTable}
@@ -46,6 +49,7 @@ use Rattle.gated_tables.specs.Devices.{Device, part_client}
 use Rattle.gated_tables.specs.Net.{Sent, Net, NetStep, gate_at, device_at, has_none, still, refused, unless_down, is_node_down, sending, cutting, cut_by, with_device, restarted, asks_again}
 use Rattle.gated_tables.specs.Net.{Asker, carried_on, of_session, says_made, says_gone, answer_heard, is_linked, unless_busy, answer_from, answering, asked_by, is_schema, creates, drops, is_client, terms_in, saves, to_create, to_drop, to_save, turned_away}
 use Rattle.gated_tables.specs.Net.{part_taken, is_shut, way_to, asks_for, unless_away, asks_create, asks_drop, to_ask, is_open, to_give, if_read, to_end}
+use Rattle.gated_tables.specs.Net.{tables_told, asks_each, changes_come, changes_told, notified, token_with, asks_gate, to_subscribe, subscribing, unsubscribing, by_net}
 use Rattle.gated_tables.specs.Net.{client_taken, asks_session, answered, if_idle, agenda_in, answer_taken, to_client, restoring, busy_with, restored, to_store, directory_of, with_running}
 use Rattle.gated_tables.specs.Net.{sent_of, gate_done, to_gate}
 use Rattle.gated_tables.specs.Net.{delivered_to, relinked, linked, gate_crashed, gate_started, client_started, net_step}
@@ -53,10 +57,11 @@ use Rattle.gated_tables.specs.Net as net
 use Rattle.gated_laws.specs.Carried.{IsNoGate, IsEventCarried, IsLoneAnswer, IsDoneAnswer, IsAskingRefusal, IsAskingAnswer, AreAnswered, AreLone, IsLone}
 use Rattle.gated_laws.proofs.HandedOn.{way_of, AreHandedOn, handed_on}
 use Rattle.gated_laws.proofs.NetLines.{to_of, wires_to}
-use Rattle.gated_laws.proofs.KeptWires.{ComesFrom, IsPartAddressed, parts_go, KeepsWire, step_keeps, IsLinked, none_linked, cut_linked}
-use Rattle.gated_laws.proofs.KeptNets.{IsGate, IsSentAs, AreParts, IsKeptNet, no_part, none_asked, IsLinkedNet, gates_linked, cut_net, device_net, Carries, then_carries, carries_more, shares_asked, shares, stays_alone}
+use Rattle.gated_laws.proofs.KeptWires.{ComesFrom, IsPartAddressed, parts_go, KeepsWire, step_keeps, IsLinked, none_linked, cut_linked, links_besides}
+use Rattle.gated_laws.proofs.KeptNets.{IsGate, IsSentAs, AreParts, IsKeptNet, no_part, none_asked, IsLinkedNet, gates_linked, cutting_net, cut_net, device_net, Carries, then_carries, carries_more, shares_asked, shares, stays_alone}
 use Rattle.gated_laws.proofs.KeptNets.{answers_alone, unless_node_down, itself}
 use Rattle.gated_laws.proofs.KeptNets.{sends_alone}
+use Rattle.gated_laws.proofs.Telling.{lone_done, tick_carries, tables_few, asks_devices, IsAsking, asks_carry}
 
 -- ---- a part that comes to a Store is its client's
 
@@ -127,16 +132,9 @@ a_client number table c terms is =
 alone : (answer : Answer) → IsLoneAnswer answer → AreLone (AnswerLine answer ∷ [])
 alone answer is = record { answer = answer; is = is; told = []; sent = tt; lines_are = refl }
 
-done_lone : (answer : Answer) → IsDoneAnswer answer → IsLoneAnswer answer
-done_lone facts.Done is = tt
-done_lone other is = absurd is
-
 done_asks : (answer : Answer) → IsDoneAnswer answer → IsAskingAnswer answer
 done_asks facts.Done is = tt
 done_asks other is = absurd is
-
-lone_done : (lines : List Line) → AreAnswered IsDoneAnswer lines → AreLone lines
-lone_done lines a = record { answer = a.answer; is = done_lone a.answer a.is; told = a.told; sent = a.sent; lines_are = a.lines_are }
 
 asking_done : (lines : List Line) → AreAnswered IsDoneAnswer lines → AreAnswered IsAskingAnswer lines
 asking_done lines a = record { answer = a.answer; is = done_asks a.answer a.is; told = a.told; sent = a.sent; lines_are = a.lines_are }
@@ -320,9 +318,54 @@ module _ (n : Net) (k : IsKeptNet n) where
           go true = heard (says_gone m) (says_made m)
           go false = answers_alone n k deliver (facts.Refuses facts.Offline) (alone (facts.Refuses facts.Offline) tt)
 
-      message_to_client : (c : ℕ) → p.to ≡ nodes.Client c → (m : Message) → Carries 1 n deliver (to_client n c (record p { message = m }) lucks None)
-      message_to_client c here (kinds.OperationResponse m) = answer_carries c here m (device_at n c) refl
-      message_to_client c here other = done_alone
+      -- it is told of changes, and asks for the next ones
+      told_carries : (c bits : ℕ) → p.to ≡ nodes.Client c → is_client_down (client_at n.wire.world c) ≡ false → (o : Option Device) → device_at n c ≡ o
+          → Carries 1 n deliver (changes_told n c bits lucks o)
+      told_carries c bits here up None none =
+          carries_more n deliver _ (asks_carry n number c (to_there number p at ∙ ap (λ (x : Node). Some x) here) (tables_told bits) lucks 0 (changes_come n c bits) first (let few = tables_few bits in omega (arith, few)))
+        where
+          first : IsAsking n 0 (changes_come n c bits)
+          first = record {
+            telling = record { answer = refl; counted = refl; sent = sym (append-nil n.sent); silent = (((refl, tt), (tt, tt)), tt) };
+            besides = links_besides n.wire n.wire (none_linked n.wire k.wire);
+            few = omega arith;
+            kept = k;
+          }
+      told_carries c bits here up (Some d) some = then_carries n deliver x carries_x (cut_by c d x.net)
+          (cut_net x.net carries_x.kept c d (carries_x.kept.devices c d (ap (λ (ds : List (ℕ × Device)). lookup (is_at (nat_cmp c)) ds) (asks_devices c (tables_told bits) lucks (changes_come m c bits)) ∙ some)))
+        where
+          m : Net
+          m = record n { wire = cutting c d.linked n.wire }
+
+          l : IsLinkedNet n m
+          l = cutting_net n k c d.linked (k.devices c d some) up
+
+          first : IsAsking n 1 (changes_come m c bits)
+          first = record {
+            telling = record { answer = refl; counted = refl; sent = sym (append-nil n.sent); silent = (((refl, tt), (tt, tt)), tt) };
+            besides = links_besides n.wire m.wire l.linked;
+            few = l.linked.few;
+            kept = l.kept;
+          }
+
+          x : NetStep
+          x = asks_each c (tables_told bits) lucks (changes_come m c bits)
+
+          carries_x : Carries 0 n deliver x
+          carries_x = asks_carry n number c (to_there number p at ∙ ap (λ (y : Node). Some y) here) (tables_told bits) lucks 1 (changes_come m c bits) first (let few = tables_few bits in omega (arith, few))
+
+      notified_carries : (c bits : ℕ) → p.to ≡ nodes.Client c → is_client_down (client_at n.wire.world c) ≡ false → (o : Option Device) → device_at n c ≡ o
+          → Carries 1 n deliver (notified n c bits lucks o)
+      notified_carries c bits here up o is = go (is_linked n c o)
+        where
+          go : (b : Bool) → Carries 1 n deliver (if b then if_idle n lucks (agenda_in (client_at n.wire.world c)) (changes_told n c bits lucks o) else refused n facts.Offline)
+          go true = idle_carries (agenda_in (client_at n.wire.world c)) (changes_told n c bits lucks o) (told_carries c bits here up o is)
+          go false = answers_alone n k deliver (facts.Refuses facts.Offline) (alone (facts.Refuses facts.Offline) tt)
+
+      message_to_client : (c : ℕ) → p.to ≡ nodes.Client c → is_client_down (client_at n.wire.world c) ≡ false → (m : Message) → Carries 1 n deliver (to_client n c (record p { message = m }) lucks None)
+      message_to_client c here up (kinds.OperationResponse m) = answer_carries c here m (device_at n c) refl
+      message_to_client c here up (kinds.Notify m) = notified_carries c m.bitmap here up (device_at n c) refl
+      message_to_client c here up other = done_alone
 
     restored_carries : (m : ℕ) (p : Sent) (r : RestoreClientSubscriptions) (o : Option ℕ) → Carries 1 n deliver (restored n m p r o)
     restored_carries m p r None = go r.reply
@@ -464,7 +507,7 @@ module _ (n : Net) (k : IsKeptNet n) where
         (λ up. go up (part_of p.message) refl)
       where
         go : is_node_down n (nodes.Client c) ≡ false → (o : Option Part) → part_of p.message ≡ o → Carries 1 n deliver (to_client n c p lucks o)
-        go up None is = message_to_client p at c here p.message
+        go up None is = message_to_client p at c here up p.message
         go up (Some part) is = taken_carries number p at part is lucks c here up (device_at n c) refl
     node_carries p at (nodes.Gate g) here =
         unless_node_down n k deliver (nodes.Gate g) (to_gate n g p (gate_at n g)) (down_lone (nodes.Gate g)) (λ up. gate_carries g p (among_get n.sent number p at) (gate_at n g))
@@ -508,13 +551,14 @@ module _ (n : Net) (k : IsKeptNet n) where
     refusal_carries : (refusal : Refusal) → IsAskingRefusal refusal → Carries 1 n event (refused n refusal)
     refusal_carries refusal is = answers_alone n k event (facts.Refuses refusal) (lone _ (asks_alone (facts.Refuses refusal) is))
 
+    no_part_in : (one : Sent) → part_of one.message ≡ None → AreParts n.wire (one ∷ [])
+    no_part_in one none q b part is = no_part (part_of q.message) part (⊎_elim (λ e. ap (λ (x : Sent). part_of x.message) (sym e) ∙ none) (λ more. absurd (among_none q more)) (among_cons one [] q b)) is
+
+    sends_one : (one : Sent) → part_of one.message ≡ None → Carries 1 n event (sending n (one ∷ []))
+    sends_one one none = sends_alone n k event n (one ∷ []) (λ ls are. lone ls (asking_done ls are)) (itself n k) (no_part_in one none)
+
     asks_carries : (c table : ℕ) (o : Option Device) (m : Message) → part_of m ≡ None → Carries 1 n event (asks_for n c table o m)
-    asks_carries c table o m none =
-        let one : Sent = record { from = nodes.Client c; to = way_to n.wire.world table o; message = m } in
-        sends_alone n k event n (one ∷ []) (λ ls are. lone ls (asking_done ls are)) (itself n k) (no_part_in one none)
-      where
-        no_part_in : (one : Sent) → part_of one.message ≡ None → AreParts n.wire (one ∷ [])
-        no_part_in one none q b part is = no_part (part_of q.message) part (⊎_elim (λ e. ap (λ (x : Sent). part_of x.message) (sym e) ∙ none) (λ more. absurd (among_none q more)) (among_cons one [] q b)) is
+    asks_carries c table o m none = sends_one (record { from = nodes.Client c; to = way_to n.wire.world table o; message = m }) none
 
     away_carries : (c : ℕ) (lucks : Lucks) (node : Client) (x : NetStep) → Carries 1 n event x → Carries 1 n event (unless_away n c lucks node x)
     away_carries c lucks node x carries_x = go node.agenda
@@ -578,6 +622,32 @@ module _ (n : Net) (k : IsKeptNet n) where
       go (Some node) = up_carries event same c _ (reads node (first_luck lucks.calls))
   drop_carried table lucks other = still_carries (events.Drop other table) (λ lines are. are)
 
+  -- ---- a client asks for a subscription, and ticks
+
+  net_carried : (it : NetEvent) (lucks : Lucks) → Carries 1 n (events.Net it) (by_net n lucks it)
+  net_carried it lucks = go it
+    where
+      event : Event
+      event = events.Net it
+
+      same : (lines : List Line) → AreAnswered IsAskingAnswer lines → IsLone event lines
+      same lines are = are
+
+      asks_of : (c : ℕ) (node : Client) (m : Message) → part_of m ≡ None → (o : Option Device) → Carries 1 n event (asks_gate n c lucks node m o)
+      asks_of c node m none None = refusal_carries event same (facts.Unregistered c) tt
+      asks_of c node m none (Some d) = away_carries event same c lucks node _ (sends_one event same (record { from = nodes.Client c; to = nodes.Gate d.gate; message = m }) none)
+
+      subscribes : (c : ℕ) (message : ℕ → Message) → ((token : ℕ) → part_of (message token) ≡ None) → (o : Option Client) → Carries 1 n event (to_subscribe n c lucks message o)
+      subscribes c message none None = refusal_carries event same facts.NoTable tt
+      subscribes c message none (Some node) =
+          let token : ℕ = token_with (device_at n c) in up_carries event same c _ (asks_of c node (message token) (none token) (device_at n c))
+
+      go : (x : NetEvent) → Carries 1 n event (by_net n lucks x)
+      go (nets.Subscribe c table period tolerance) = subscribes c (subscribing c table period tolerance) (λ token. refl) (client_at n.wire.world c)
+      go (nets.Unsubscribe c table) = subscribes c (unsubscribing c table) (λ token. refl) (client_at n.wire.world c)
+      go (nets.WriteSync c table period tolerance) = still_carries event same
+      go nets.Tick = carries_more n event _ (tick_carries n k event asking_done)
+
   -- ---- a client that starts
 
   started_carries : (c : ℕ) (lucks : Lucks) → Carries 1 n (events.Start (nodes.Client c)) (client_started n c lucks)
@@ -626,6 +696,7 @@ module _ (n : Net) (k : IsKeptNet n) where
   carries (events.Link c up) plain built lucks = linked_carries c up lucks (device_at n c) refl
   carries (events.Create node table) plain built lucks = create_carried table lucks node
   carries (events.Drop node table) plain built lucks = drop_carried table lucks node
+  carries (events.Net it) plain built lucks = net_carried it lucks
   carries (events.Start (nodes.Client c)) plain built lucks = started_carries c lucks
   carries (events.Hold (nodes.Gate g)) plain built lucks =
       unless_node_down n k (events.Hold (nodes.Gate g)) (nodes.Gate g) _ refl (λ up. carries_more n (events.Hold (nodes.Gate g)) _ (own_event (events.Hold (nodes.Gate g)) refl tt lucks refl))

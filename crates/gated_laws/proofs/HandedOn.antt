@@ -22,9 +22,8 @@ use Rattle.gate_tables.specs.declared.timer.Placed.{Placed}
 use Rattle.gate_tables.specs.declared.timer.Asked.{Asked}
 use Rattle.gate_tables.specs.declared.timer.Wish.{Wish}
 use Rattle.gate_tables.specs.declared.timer.Wish.TheVariants as wishes
-use Rattle.gate_tables.specs.Gate.{Session, Running, Directory, Done, Sends, placed, session_of, has_token_left, asks, drawing, registered, asked, passed, goes_on, to_owner, by_session, by_asked}
-use Rattle.gate_tables.specs.Gate.{from_client}
-use Rattle.gate_tables.specs.Gate.{client_of, to_client, restore, notices, changed, from_store, taken, quiet, notify}
+use Rattle.gate_tables.specs.Gate.{Session, Running, Directory, Done, Sends, placed, session_of, has_token_left, asks, drawing, registered, asked, passed, to_owner, by_session, by_asked}
+use Rattle.gate_tables.specs.Gate.{client_of, to_client, restore, notices, from_store, taken, quiet, notify}
 use Rattle.gate_tables.specs.Gate as gate
 use Rattle.gated_tables.specs.Devices.{stamped}
 use Rattle.gated_tables.specs.Net.{place_of, places_in, directory_of}
@@ -267,3 +266,17 @@ module _ (w : World) where
     handed_on (nodes.Client client) m = client_sends client m
     handed_on (nodes.Store store) m = store_handed m
     handed_on (nodes.Gate gate) m = tt
+
+-- ---- at a tick no part is sent
+
+notices_bare : (tells : Session → Option ℕ) (sessions : List (ℕ × Session)) → AllByRecursion (λ (send : Node × Message). part_of send.1 ≡ None) (notices tells sessions)
+notices_bare tells [] = tt
+notices_bare tells (e ∷ sessions) = go (notices_bare tells sessions) (tells e.1)
+  where
+    go : AllByRecursion (λ (send : Node × Message). part_of send.1 ≡ None) (notices tells sessions) → (o : Option ℕ)
+        → AllByRecursion (λ (send : Node × Message). part_of send.1 ≡ None) (map (λ tables. notify e.0 tables) (option_to_list o) ++ notices tells sessions)
+    go rest None = rest
+    go rest (Some tables) = (refl, rest)
+
+pub ticked_bare : (running : Running) → AllByRecursion (λ (send : Node × Message). part_of send.1 ≡ None) (gate.ticked running).sends
+ticked_bare running = notices_bare gate.told_at_tick running.sessions

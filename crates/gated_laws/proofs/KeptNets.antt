@@ -9,13 +9,14 @@ use Rattle.std.proofs.lemmas.List.{map-append}
 use Rattle.stab_base.specs.declared.node.Node.{Node}
 use Rattle.stab_base.specs.declared.node.Node.TheVariants as nodes
 use Rattle.table_model.specs.declared.event.Event.{Event}
-use Rattle.step_tables.specs.Facts.{Fact, Answer, AnswerLine, FactLine, Line}
+use Rattle.table_model.specs.declared.event.Event.TheVariants as events
+use Rattle.step_tables.specs.Facts.{Fact, Answer, AnswerLine, Line}
 use Rattle.step_tables.specs.Facts as facts
 use Rattle.step_tables.specs.Members.{Among}
 use Rattle.step_tables.proofs.Lists.{among_none, among_cons, among_left, among_either, among_right, among_mapped}
 use Rattle.world_tables.specs.Quiet.{sent_in}
 use Rattle.world_tables.specs.Turns.{Happening}
-use Rattle.world_tables.specs.World.{Lucks, client_at, is_client_down, hosted_at}
+use Rattle.world_tables.specs.World.{World, Lucks, client_at, is_client_down}
 use Rattle.step_tables.specs.Messages.{Outcome, Accepted}
 use Rattle.fair_laws.specs.Reached.{IsBuilt}
 use Rattle.fair_laws.proofs.Hosting.{all_after}
@@ -28,13 +29,13 @@ use Rattle.gated_tables.specs.Devices.{Device, is_online, or_zero}
 use Rattle.gated_tables.specs.Net.{Sent, Net, NetStep, NetOutbox, device_at, lines_of, still, refused, unless_down, is_node_down, sending, cutting, cut_by, with_device, sent_by, sent_to}
 use Rattle.gated_tables.specs.Net.{routed_to, routed_from, routed, passed_with, changes_by, changes_for, change_at, gates_for}
 use Rattle.gated_tables.specs.Net.{Asker, asker_at, asks_again, answers_to, sends_by, told_by, passed_on, outs_by, outs_of, carried_on}
-use Rattle.gated_laws.specs.Carried.{IsDoneAnswer, AreAnswered, IsLone, IsEventCarried, AreLinesCarried}
+use Rattle.gated_laws.specs.Carried.{IsDoneAnswer, AreAnswered, IsLone, IsUntold, IsEventCarried, AreLinesCarried}
 use Rattle.gated_laws.proofs.Addressed.{ClientsStay}
 use Rattle.gated_laws.proofs.Remembered.{shaped}
 use Rattle.gated_laws.proofs.HandedOn.{part_back, part_stamped}
-use Rattle.gated_laws.proofs.NetLines.{to_of, wires_to, packets_by, sent_facts, all_sent, lines_carried, carried_sends, wire_sends, sending_lines, sending_sends}
+use Rattle.gated_laws.proofs.NetLines.{to_of, wires_to, packets_by, sent_facts, all_sent, lines_carried, lines_untold, carried_sends, wire_sends, sending_lines, sending_sends}
 use Rattle.gated_laws.proofs.NetLines as lines
-use Rattle.gated_laws.proofs.KeptWires.{IsKeptWire, plain_step, IsLinked, none_linked, then_linked, cut_linked}
+use Rattle.gated_laws.proofs.KeptWires.{IsKeptWire, plain_step, IsBesides, IsLinked, none_linked, then_linked, cut_linked, links_besides}
 
 abbrev pub IsGate : Node → Type 0
 IsGate (nodes.Gate number) = Unit {0}
@@ -116,43 +117,44 @@ module _ (n : Net) where
   none_by (facts.Saved table) p a = none_answered table (asker_at n table) p a
   none_by other p a = absurd (among_none p a)
 
-  -- gateways are told of changes
-  none_changed : (q : PartPacket) (part : Part) (p : Sent) → Among (changes_by n q part) p → part_of p.message ≡ None
-  none_changed q (Responds r) p a = by_outcome r.outcome a
-    where
-      by_outcome : (outcome : Outcome) → Among (changes_for n q r outcome) p → part_of p.message ≡ None
-      by_outcome (Accepted version) b = let x = among_mapped (change_at q.from r.table version) (gates_for (hosted_at n.wire.world r.table)) p b in ap (λ (s : Sent). part_of s.message) (sym x.2)
-      by_outcome other b = absurd (among_none p b)
-  none_changed q other p a = absurd (among_none p a)
+  module _ (w : World) where
+    -- gateways are told of changes
+    none_changed : (from : Node) (part : Part) (p : Sent) → Among (changes_by w from part) p → part_of p.message ≡ None
+    none_changed from (Responds r) p a = by_outcome r.outcome a
+      where
+        by_outcome : (outcome : Outcome) → Among (changes_for w from r outcome) p → part_of p.message ≡ None
+        by_outcome (Accepted version) b = let x = among_mapped (change_at from r.table version) (gates_for w r.table) p b in ap (λ (s : Sent). part_of s.message) (sym x.2)
+        by_outcome other b = absurd (among_none p b)
+    none_changed from other p a = absurd (among_none p a)
 
-  passed_parts : (packets : List PartPacket) (p : Sent) → Among (flat_map (passed_with n) packets) p → (part : Part) → part_of p.message ≡ Some part
-      → (packet : PartPacket) × Among packets packet × (packet.part ≡ part) × ((p.to ≡ packet.to) ⊎ IsGate p.to)
-  passed_parts packets p a part is =
-      let r = flat_member (passed_with n) packets p a in
-      let either = among_cons (routed n r.0) (changes_by n r.0 r.0.part) p r.2 in
-      ⊎_elim
-      (λ e.
-      let routed_is : IsRouted r.0 p = subst (IsRouted r.0) e (is_routed r.0) in
-      (r.0, r.1, (let both : Some r.0.part ≡ Some part = sym routed_is.0 ∙ is in cc), routed_is.1))
-      (λ more. no_part (part_of p.message) part (none_changed r.0 r.0.part p more) is) either
+    passed_parts : (packets : List PartPacket) (p : Sent) → Among (flat_map (passed_with n w) packets) p → (part : Part) → part_of p.message ≡ Some part
+        → (packet : PartPacket) × Among packets packet × (packet.part ≡ part) × ((p.to ≡ packet.to) ⊎ IsGate p.to)
+    passed_parts packets p a part is =
+        let r = flat_member (passed_with n w) packets p a in
+        let either = among_cons (routed n r.0) (changes_by w r.0.from r.0.part) p r.2 in
+        ⊎_elim
+        (λ e.
+        let routed_is : IsRouted r.0 p = subst (IsRouted r.0) e (is_routed r.0) in
+        (r.0, r.1, (let both : Some r.0.part ≡ Some part = sym routed_is.0 ∙ is in cc), routed_is.1))
+        (λ more. no_part (part_of p.message) part (none_changed r.0.from r.0.part p more) is) either
 
-  out_parts : (out : PartOutbox) (o : NetOutbox) → Among (outs_by n out) o → (p : Sent) → Among o.sent p → (part : Part) → part_of p.message ≡ Some part
-      → (packet : PartPacket) × Among out.packets packet × (packet.part ≡ part) × ((p.to ≡ packet.to) ⊎ IsGate p.to)
-  out_parts out o stands p a part is = ⊎_elim
-      (λ b.
-      let fact = among_mapped (told_by n) out.facts o b in
-      no_part (part_of p.message) part (none_by fact.0 p (subst (λ (x : NetOutbox). Among x.sent p) (sym fact.2) a)) is)
-      (λ b. ⊎_elim (λ e. passed_parts out.packets p (subst (λ (x : NetOutbox). Among x.sent p) (sym e) a) part is) (λ more. absurd (among_none o more))
-      (among_cons (passed_on n out.packets) [] o b))
-      (among_either (map (told_by n) out.facts) (passed_on n out.packets ∷ []) o stands)
+    out_parts : (out : PartOutbox) (o : NetOutbox) → Among (outs_by n w out) o → (p : Sent) → Among o.sent p → (part : Part) → part_of p.message ≡ Some part
+        → (packet : PartPacket) × Among out.packets packet × (packet.part ≡ part) × ((p.to ≡ packet.to) ⊎ IsGate p.to)
+    out_parts out o stands p a part is = ⊎_elim
+        (λ b.
+        let fact = among_mapped (told_by n) out.facts o b in
+        no_part (part_of p.message) part (none_by fact.0 p (subst (λ (x : NetOutbox). Among x.sent p) (sym fact.2) a)) is)
+        (λ b. ⊎_elim (λ e. passed_parts out.packets p (subst (λ (x : NetOutbox). Among x.sent p) (sym e) a) part is) (λ more. absurd (among_none o more))
+        (among_cons (passed_on n w out.packets) [] o b))
+        (among_either (map (told_by n) out.facts) (passed_on n w out.packets ∷ []) o stands)
 
-  outs_parts : (outs : List PartOutbox) (p : Sent) → Among (lines.sent_by (outs_of n outs)) p → (part : Part) → part_of p.message ≡ Some part
-      → (packet : PartPacket) × Among (packets_by outs) packet × (packet.part ≡ part) × ((p.to ≡ packet.to) ⊎ IsGate p.to)
-  outs_parts outs p a part is =
-      let o = flat_member (λ (out : NetOutbox). out.sent) (outs_of n outs) p a in
-      let r = flat_member (outs_by n) outs o.0 o.1 in
-      let x = out_parts r.0 o.0 r.2 p o.2 part is in
-      (x.0, member_flat (λ (out : PartOutbox). out.packets) outs r.0 x.0 r.1 x.1, x.2, x.3)
+    outs_parts : (outs : List PartOutbox) (p : Sent) → Among (lines.sent_by (outs_of n w outs)) p → (part : Part) → part_of p.message ≡ Some part
+        → (packet : PartPacket) × Among (packets_by outs) packet × (packet.part ≡ part) × ((p.to ≡ packet.to) ⊎ IsGate p.to)
+    outs_parts outs p a part is =
+        let o = flat_member (λ (out : NetOutbox). out.sent) (outs_of n w outs) p a in
+        let r = flat_member (outs_by n w) outs o.0 o.1 in
+        let x = out_parts r.0 o.0 r.2 p o.2 part is in
+        (x.0, member_flat (λ (out : PartOutbox). out.packets) outs r.0 x.0 r.1 x.1, x.2, x.3)
 
 -- ---- a net whose sessions, links or gateways alone are other ones
 
@@ -164,22 +166,27 @@ pub record IsLinkedNet (n later : Net) : Type 0 where
 pub gates_linked : (n : Net) (gates : _) → IsKeptNet n → IsLinkedNet n (record n { gates = gates })
 gates_linked n gates k = record { linked = none_linked n.wire k.wire; kept = record { wire = k.wire; devices = k.devices; sent = k.sent }; sent = refl }
 
+-- a client that is up is cut off, or not
+pub cutting_net : (n : Net) → IsKeptNet n → (c : ℕ) (up : Bool) → is_some (client_at n.wire.world c) ≡ true → is_client_down (client_at n.wire.world c) ≡ false
+    → IsLinkedNet n (record n { wire = cutting c up n.wire })
+cutting_net n k c up there is_up =
+    let l : IsLinked n.wire (cutting c up n.wire) = cut_linked n.wire k.wire c up there is_up in
+    record {
+      linked = l;
+      kept = record {
+        wire = l.kept;
+        devices = λ q x at. l.clients q (k.devices q x at);
+        sent = λ p a part is_part. same_sent n.wire (cutting c up n.wire) l.packets p.to part (k.sent p a part is_part);
+      };
+      sent = refl;
+    }
+
 pub cut_net : (n : Net) → IsKeptNet n → (c : ℕ) (d : Device) → is_some (client_at n.wire.world c) ≡ true → IsLinkedNet n (cut_by c d n)
 cut_net n k c d there = go (is_client_down (client_at n.wire.world c)) refl
   where
     go : (b : Bool) → is_client_down (client_at n.wire.world c) ≡ b → IsLinkedNet n (if b then n else record n { wire = cutting c (is_online d) n.wire })
     go true is = record { linked = none_linked n.wire k.wire; kept = k; sent = refl }
-    go false is =
-        let l : IsLinked n.wire (cutting c (is_online d) n.wire) = cut_linked n.wire k.wire c (is_online d) there is in
-        record {
-          linked = l;
-          kept = record {
-            wire = l.kept;
-            devices = λ q x at. l.clients q (k.devices q x at);
-            sent = λ p a part is_part. same_sent n.wire (cutting c (is_online d) n.wire) l.packets p.to part (k.sent p a part is_part);
-          };
-          sent = refl;
-        }
+    go false is = cutting_net n k c (is_online d) there is
 
 pub device_net : (n : Net) → IsKeptNet n → (c : ℕ) (d : Device) → is_some (client_at n.wire.world c) ≡ true → IsLinkedNet n (with_device c d n)
 device_net n k c d there = record { linked = l.linked; kept = l.kept; sent = l.sent }
@@ -203,6 +210,7 @@ pub record IsShared (most : ℕ) (n : Net) (event : Event) (x : NetStep) (v : Wi
   pub built : IsBuilt other
   pub carried : IsEventCarried (to_of n.sent) (wires_to v.packets) event other
   pub lines : AreLinesCarried (lines_of n x) (wires.lines_of v (wire_step v other lucks))
+  pub none : lines.others ≡ [] → IsUntold event lines.told
   pub packets : wires_to (wire_step v other lucks).wire.packets ≡ wires_to v.packets ++ sent_in (wires.lines_of v (wire_step v other lucks))
   pub behind : IsLinked (wire_step v other lucks).wire x.net.wire
   pub few : length behind.run ≤ most
@@ -213,10 +221,11 @@ pub record IsAlone (most : ℕ) (n : Net) (event : Event) (x : NetStep) (v : Wir
   pub behind : IsLinked v x.net.wire
   pub few : length behind.run ≤ most
 
--- between links
+-- behind a link and an ask for each table, and before links
 pub record Carries (most : ℕ) (n : Net) (event : Event) (x : NetStep) : Type 0 where
   pub v : Wire
-  pub before : IsLinked n.wire v
+  pub before : IsBesides n.wire v
+  pub few : length before.run ≤ 65
   pub middle : IsAlone most n event x v ⊎ IsShared most n event x v
   pub sent : to_of x.net.sent ≡ to_of n.sent ++ sent_in (lines_of n x)
   pub kept : IsKeptNet x.net
@@ -226,6 +235,7 @@ pub then_carries : (n : Net) (event : Event) (x : NetStep) → Carries 0 n event
 then_carries n event x c net l = record {
   v = c.v;
   before = c.before;
+  few = c.few;
   middle = ⊎_elim
       (λ a. let behind : IsLinked c.v net.wire = then_linked c.v x.net.wire net.wire a.behind a.few l.linked in inl (record { lone = a.lone; behind = behind; few = behind.few }))
       (λ a.
@@ -236,6 +246,7 @@ then_carries n event x c net l = record {
         built = a.built;
         carried = a.carried;
         lines = a.lines;
+        none = a.none;
         packets = a.packets;
         behind = behind;
         few = behind.few;
@@ -249,6 +260,7 @@ pub carries_more : (n : Net) (event : Event) (x : NetStep) → Carries 0 n event
 carries_more n event x c = record {
   v = c.v;
   before = c.before;
+  few = c.few;
   middle = ⊎_elim (λ a. inl (record { lone = a.lone; behind = a.behind; few = a.behind.few }))
       (λ a. inr (record {
         other = a.other;
@@ -256,6 +268,7 @@ carries_more n event x c = record {
         built = a.built;
         carried = a.carried;
         lines = a.lines;
+        none = a.none;
         packets = a.packets;
         behind = a.behind;
         few = a.behind.few;
@@ -264,6 +277,13 @@ carries_more n event x c = record {
   kept = c.kept;
 }
 
+pub few_links : (u v : Wire) (l : IsLinked u v) → length l.run ≤ 65
+few_links u v l = let few = l.few in omega (arith, few)
+
+untold_any : (event : Event) (told : List Fact) → told ≡ [] → IsUntold event told
+untold_any (events.Deliver packet) told none = tt
+untold_any event told none = none
+
 module _ (n : Net) (k : IsKeptNet n) where
   -- ---- an event of the wire
 
@@ -271,13 +291,15 @@ module _ (n : Net) (k : IsKeptNet n) where
       → IsKeptWire (wire_step v other lucks).wire → ClientsStay v.world (wire_step v other lucks).wire.world → Carries 0 n event (carried_on (record n { askers = askers }) (wire_step v other lucks))
   shares_asked askers v before event other lucks built carried kept stay = record {
     v = v;
-    before = before;
+    before = links_besides n.wire v before;
+    few = few_links n.wire v before;
     middle = inr (record {
       other = other;
       lucks = lucks;
       built = built;
       carried = carried;
       lines = lines_carried n m v s;
+      none = λ empty. untold_any event (lines_carried n m v s).told (lines_untold n m v s empty);
       packets = ap wires_to packets ∙ (map-append (λ (p : PartPacket). p.to) v.packets (packets_by s.outs) ∙ ap (λ (ns : List Node). wires_to v.packets ++ ns) (sym (wire_sends v s plain)));
       behind = none_linked s.wire kept;
       few = none_few;
@@ -288,7 +310,7 @@ module _ (n : Net) (k : IsKeptNet n) where
       devices = λ c d at. stay c (before.clients c (k.devices c d at));
       sent = λ p a part is. ⊎_elim
           (λ old. more_sent v s.wire (packets_by s.outs) packets p.to part (same_sent n.wire v before.packets p.to part (k.sent p old part is)))
-          (λ new. let r = outs_parts m s.outs p new part is in record {
+          (λ new. let r = outs_parts m s.wire.world s.outs p new part is in record {
             packet = r.0;
             stands = subst (λ (ps : List PartPacket). Among ps r.0) (sym packets) (among_right v.packets (packets_by s.outs) r.0 r.1);
             part_is = r.2;
@@ -322,7 +344,8 @@ module _ (n : Net) (k : IsKeptNet n) where
   pub stays_alone : (event : Event) (later : Net) (answer : Answer) → IsLone event (AnswerLine answer ∷ []) → IsLinkedNet n later → Carries 1 n event (still later answer)
   stays_alone event later answer lone l = record {
     v = n.wire;
-    before = none_linked n.wire k.wire;
+    before = links_besides n.wire n.wire (none_linked n.wire k.wire);
+    few = few_links n.wire n.wire (none_linked n.wire k.wire);
     middle = inl (record { lone = lone; behind = l.linked; few = l.linked.few });
     sent = ap to_of l.sent ∙ sym (append-nil (to_of n.sent));
     kept = l.kept;
@@ -347,7 +370,8 @@ module _ (n : Net) (k : IsKeptNet n) where
       → Carries 1 n event (sending later sent)
   sends_alone event later sent lone l parts = record {
     v = n.wire;
-    before = none_linked n.wire k.wire;
+    before = links_besides n.wire n.wire (none_linked n.wire k.wire);
+    few = few_links n.wire n.wire (none_linked n.wire k.wire);
     middle = inl (record {
       lone = lone (lines_of n (sending later sent)) (record {
         answer = facts.Done;

@@ -1,7 +1,8 @@
 -- What every wire keeps that built events lead to: what is in memory is of nodes that are up, and each part goes its way.
-use Rattle.std.proofs.Common.{◌≡◌, inl, inr, ⊎_elim, ℕ, Bool, true, false, List, [], ◌∷◌, ◌++◌, Option, Some, None, refl, sym, ◌∙◌, ap, subst, append-nil, true≢false, length, ◌≤◌, arith, length-append}
+use Rattle.std.proofs.Common.{◌≡◌, inl, inr, ⊎_elim, ℕ, Bool, true, false, List, [], ◌∷◌, ◌++◌, Option, Some, None, refl, sym, ◌∙◌, ap, subst, append-nil, append_assoc, true≢false, length, ◌≤◌, ◌+◌, arith, length-append}
 use Rattle.std.specs.Prelude.{map, is_some}
 use Rattle.std.specs.List.{AllByRecursion}
+use Rattle.std.proofs.lemmas.List.{map-append}
 use Rattle.stab_base.specs.declared.node.Node.{Node}
 use Rattle.stab_base.specs.declared.node.Node.TheVariants as nodes
 use Rattle.table_model.specs.declared.event.Event.{Event}
@@ -13,6 +14,7 @@ use Rattle.step_tables.specs.Messages.{Pulled, TornPulled, Header, Message, Sync
 use Rattle.step_tables.proofs.Lists.{among_none}
 use Rattle.world_tables.specs.Sound.{is_declaration}
 use Rattle.world_tables.specs.Turns.{Happening, Turn}
+use Rattle.world_tables.specs.Quiet.{sent_in}
 use Rattle.world_tables.specs.World.{World, Outbox, Lucks, no_lucks, step, client_at, is_client_down, owner_of, with_link}
 use Rattle.fair_laws.specs.Reached.{IsBuilt}
 use Rattle.assemblies.specs.declared.sent.Sent.TheVariants as sents
@@ -35,11 +37,12 @@ use Rattle.wire_laws.proofs.Comings.{Comes}
 use Rattle.wire_laws.proofs.WireSteps.{all_come}
 use Rattle.wire_laws.proofs.WireRuns.{IsGoing, going_ground, run_goes}
 use Rattle.gated_tables.specs.Net.{cutting}
-use Rattle.gated_laws.specs.Carried.{AreLinkTurns}
+use Rattle.gated_laws.specs.Carried.{IsAskAnswer, AreBeside, sent_among}
 use Rattle.gated_laws.proofs.Addressed.{IsFromTo, IsAddressed, ClientsStay, IsLater, event_later, IsDeclared, event_declares, start_addressed}
 use Rattle.gated_laws.proofs.Remembered.{IsRemembered, start_remembered, link_alone, shaped}
 use Rattle.gated_laws.proofs.HandedOn.{way_of}
-use Rattle.gated_laws.proofs.NetLines.{IsPlainWireStep}
+use Rattle.gated_laws.proofs.NetLines.{wires_to, packets_by, wire_told, wire_told_own, IsPlainWireStep, wire_sends}
+use Rattle.gated_laws.proofs.AskSteps.{IsAskOf, ask_lines}
 
 -- ---- where a part comes from and goes to
 
@@ -219,6 +222,39 @@ declares_wire v k none whole event is built lucks = go event is built (event_dec
     go (events.Client c gate tables) d b w = of (events.Client c gate tables) b w (append-nil v.packets ∙ none)
     go other d b w = absurd (true≢false (sym d))
 
+-- ---- turns that the wire has besides
+
+pub besides_join : (xs ys : List Turn) → AreBeside xs → AreBeside ys → AreBeside (xs ++ ys)
+besides_join [] ys a b = b
+besides_join (x ∷ xs) ys a b = (a.0, besides_join xs ys a.1 b)
+
+pub sent_join : (xs ys : List Turn) → sent_among (xs ++ ys) ≡ sent_among xs ++ sent_among ys
+sent_join [] ys = refl
+sent_join (x ∷ xs) ys = ap (λ (ns : List Node). sent_in x.lines ++ ns) (sent_join xs ys) ∙ sym (append_assoc (sent_in x.lines) (sent_among xs) (sent_among ys))
+
+-- links that go up or down, and asks
+pub record IsBesides (v later : Wire) : Type 0 where
+  pub run : List Happening
+  pub built : AreBuilt run
+  pub is : wire_from v run ≡ later
+  pub turns : AreBeside (turns_from v run)
+  pub packets : wires_to later.packets ≡ wires_to v.packets ++ sent_among (turns_from v run)
+
+pub then_besides : (u v w : Wire) → IsBesides u v → IsBesides v w → IsBesides u w
+then_besides u v w a b = record {
+  run = a.run ++ b.run;
+  built = built_join a.run b.run a.built b.built;
+  is = from_join u a.run b.run ∙ (ap (λ (x : Wire). wire_from x b.run) a.is ∙ b.is);
+  turns = subst AreBeside (sym joined) (besides_join (turns_from u a.run) (turns_from v b.run) a.turns b.turns);
+  packets = b.packets
+      ∙ (ap (λ (ns : List Node). ns ++ sent_among (turns_from v b.run)) a.packets
+      ∙ (append_assoc (wires_to u.packets) (sent_among (turns_from u a.run)) (sent_among (turns_from v b.run))
+      ∙ ap (λ (ns : List Node). wires_to u.packets ++ ns) (sym (ap sent_among joined ∙ sent_join (turns_from u a.run) (turns_from v b.run)))));
+}
+  where
+    joined : turns_from u (a.run ++ b.run) ≡ turns_from u a.run ++ turns_from v b.run
+    joined = turns_join u a.run b.run ∙ ap (λ (x : Wire). turns_from u a.run ++ turns_from x b.run) a.is
+
 -- ---- links
 
 -- at most one link goes up or down, and nothing else comes of it
@@ -227,18 +263,15 @@ pub record IsLinked (v later : Wire) : Type 0 where
   pub few : length run ≤ 1
   pub built : AreBuilt run
   pub is : wire_from v run ≡ later
-  pub turns : AreLinkTurns (turns_from v run)
+  pub turns : AreBeside (turns_from v run)
+  pub silent : sent_among (turns_from v run) ≡ []
   pub packets : later.packets ≡ v.packets
   pub whole : later.world.packets ≡ v.world.packets
   pub kept : IsKeptWire later
   pub clients : ClientsStay v.world later.world
 
 abbrev pub none_linked : (v : Wire) → IsKeptWire v → IsLinked v v
-none_linked v k = record { run = []; few = omega arith; built = tt; is = refl; turns = tt; packets = refl; whole = refl; kept = k; clients = λ c there. there }
-
-pub link_turns_join : (xs ys : List Turn) → AreLinkTurns xs → AreLinkTurns ys → AreLinkTurns (xs ++ ys)
-link_turns_join [] ys a b = b
-link_turns_join (x ∷ xs) ys a b = (a.0, link_turns_join xs ys a.1 b)
+none_linked v k = record { run = []; few = omega arith; built = tt; is = refl; turns = tt; silent = refl; packets = refl; whole = refl; kept = k; clients = λ c there. there }
 
 pub then_linked : (u v w : Wire) (a : IsLinked u v) → length a.run ≤ 0 → IsLinked v w → IsLinked u w
 then_linked u v w a none b = record {
@@ -246,8 +279,12 @@ then_linked u v w a none b = record {
   few = let longer = length-append a.run b.run in let few = b.few in omega (arith, longer, none, few);
   built = built_join a.run b.run a.built b.built;
   is = from_join u a.run b.run ∙ (ap (λ (x : Wire). wire_from x b.run) a.is ∙ b.is);
-  turns = subst AreLinkTurns (sym (turns_join u a.run b.run)) (link_turns_join (turns_from u a.run) (turns_from (wire_from u a.run) b.run) a.turns
-      (subst (λ (x : Wire). AreLinkTurns (turns_from x b.run)) (sym a.is) b.turns));
+  turns = subst AreBeside (sym (turns_join u a.run b.run)) (besides_join (turns_from u a.run) (turns_from (wire_from u a.run) b.run) a.turns
+      (subst (λ (x : Wire). AreBeside (turns_from x b.run)) (sym a.is) b.turns));
+  silent = ap sent_among (turns_join u a.run b.run)
+      ∙ (sent_join (turns_from u a.run) (turns_from (wire_from u a.run) b.run)
+      ∙ (ap (λ (ns : List Node). ns ++ sent_among (turns_from (wire_from u a.run) b.run)) a.silent
+      ∙ (ap (λ (x : Wire). sent_among (turns_from x b.run)) a.is ∙ b.silent)));
   packets = b.packets ∙ a.packets;
   whole = b.whole ∙ a.whole;
   kept = b.kept;
@@ -268,7 +305,8 @@ cut_linked v k c up there is_up = go (client_at v.world c) refl
       few = omega arith;
       built = (tt, tt);
       is = ap (λ (x : WireStep). x.wire) alone;
-      turns = ((c, up, ap (λ (x : WireStep). record { event = events.Link c up; lines = lines_of v x }) alone), tt);
+      turns = (ap (λ (x : WireStep). lines_of v x) alone, tt);
+      silent = ap (λ (x : WireStep). sent_in (lines_of v x) ++ []) alone;
       packets = refl;
       whole = same up;
       kept = subst IsKeptWire (ap (λ (x : WireStep). x.wire) alone) (step_keeps v k (events.Link c up) refl tt no_lucks).kept;
@@ -281,6 +319,45 @@ cut_linked v k c up there is_up = go (client_at v.world c) refl
 
         alone : wire_step v (events.Link c up) no_lucks ≡ still (cutting c up v) facts.Done
         alone = link_alone v c up no_lucks node k.remembered at is_up
+
+-- as turns of the wire
+pub linked_sends : (v later : Wire) (l : IsLinked v later) → wires_to later.packets ≡ wires_to v.packets ++ sent_among (turns_from v l.run)
+linked_sends v later l = ap wires_to l.packets ∙ (sym (append-nil (wires_to v.packets)) ∙ ap (λ (ns : List Node). wires_to v.packets ++ ns) (sym l.silent))
+
+abbrev pub links_besides : (v later : Wire) → IsLinked v later → IsBesides v later
+links_besides v later l = record { run = l.run; built = l.built; is = l.is; turns = l.turns; packets = linked_sends v later l }
+
+-- ---- asks
+
+-- one that doesn't fail
+pub ask_besides : (v : Wire) → IsKeptWire v → (c table : ℕ) (lucks : Lucks) (a : IsAskOf (wire_step v (events.Ask c table) lucks)) → IsAskAnswer a.answer
+    → IsBesides v (wire_step v (events.Ask c table) lucks).wire
+ask_besides v k c table lucks a answered = record {
+  run = record { event = events.Ask c table; lucks = lucks } ∷ [];
+  built = (tt, tt);
+  is = refl;
+  turns = (
+    record {
+      answer = a.answer;
+      is = answered;
+      told = wire_told (length v.packets) s.outs;
+      sent = wire_told_own (length v.packets) s.outs a.quiet;
+      lines_are = ask_lines v s a;
+    },
+    tt,
+  );
+  packets = ap wires_to (shaped v k.remembered (events.Ask c table) lucks).packets
+      ∙ (map-append (λ (p : PartPacket). p.to) v.packets (packets_by s.outs)
+      ∙ ap (λ (ns : List Node). wires_to v.packets ++ ns) (sym (append-nil (sent_in (lines_of v s)) ∙ wire_sends v s (plain_step v k (events.Ask c table) lucks))));
+}
+  where
+    s : WireStep
+    s = wire_step v (events.Ask c table) lucks
+
+pub one_more : (u v : Wire) (b : IsBesides u v) (k : IsKeptWire v) (c table : ℕ) (lucks : Lucks) (a : IsAskOf (wire_step v (events.Ask c table) lucks)) (is : IsAskAnswer a.answer)
+    → length (then_besides u v (wire_step v (events.Ask c table) lucks).wire b (ask_besides v k c table lucks a is)).run ≡ length b.run + 1
+unfolding then_besides ask_besides
+one_more u v b k c table lucks a is = length-append b.run (record { event = events.Ask c table; lucks = lucks } ∷ [])
 
 pub start_kept : IsKeptWire start
 start_kept = record { run = []; built = tt; is = refl; remembered = start_remembered; addressed = start_addressed }

@@ -4,8 +4,10 @@ pub mod Addressed
 pub mod Remembered
 pub mod HandedOn
 pub mod NetLines
+pub mod AskSteps
 pub mod KeptWires
 pub mod KeptNets
+pub mod Telling
 pub mod Carrying
 pub mod NetRuns
 pub mod CarriedLines

@@ -16,27 +16,20 @@ use Rattle.world_laws.proofs.Looks.{look_cases}
 use Rattle.fair_laws.specs.Reached.{IsBuilt}
 use Rattle.wire_tables.specs.Wire.{Wire, WireStep, wire_step}
 use Rattle.wire_tables.specs.Wire as wires
-use Rattle.wire_tables.specs.Runs.{wire_from, wire_turns}
+use Rattle.wire_tables.specs.Runs.{wire_from}
 use Rattle.wire_tables.specs.Runs as wire_runs
 use Rattle.wire_laws.specs.Runs.{AreBuilt}
 use Rattle.gate_tables.specs.Gate.{Gateway}
 use Rattle.gated_tables.specs.Devices.{new_device}
-use Rattle.gated_tables.specs.Net.{Net, NetStep, start, gate_at, device_at, lines_of, with_device, carried_on, joined_by, gate_declared, net_step}
+use Rattle.gated_tables.specs.Net.{Net, NetStep, start, gate_at, lines_of, with_device, carried_on, joined_by, gate_declared, net_step}
 use Rattle.gated_tables.specs.Net as net
 use Rattle.gated_tables.specs.Runs.{net_from, turns_from}
-use Rattle.gated_laws.specs.Carried.{IsLone, IsEventCarried, IsTurnCarried, AreLinkTurns, AreCarriedFrom}
+use Rattle.gated_laws.specs.Carried.{IsLone, IsEventCarried, IsTurnCarried, AreBeside, sent_among, AreCarriedFrom}
 use Rattle.gated_laws.specs.Runs.{AreDeclaredFirst, IsRunOfWires}
 use Rattle.gated_laws.proofs.NetLines.{to_of, wires_to}
-use Rattle.gated_laws.proofs.KeptWires.{turns_join, from_join, built_join, IsDeclaredWire, declares_wire, IsLinked, none_linked, link_turns_join, start_kept}
+use Rattle.gated_laws.proofs.KeptWires.{turns_join, from_join, built_join, IsDeclaredWire, declares_wire, besides_join, sent_join, IsBesides, IsLinked, none_linked, linked_sends, start_kept}
 use Rattle.gated_laws.proofs.KeptNets.{IsKeptNet, IsLinkedNet, itself, device_net, gates_linked, IsShared, IsAlone, Carries, then_carries, carries_more, shares}
 use Rattle.gated_laws.proofs.Carrying.{carries}
-
--- ---- more links
-
-more_links : (sent whole : List Node) (turns links others : List Turn) → AreLinkTurns links → AreCarriedFrom sent whole turns others → AreCarriedFrom sent whole turns (links ++ others)
-more_links sent whole [] links others l c = link_turns_join links others l c
-more_links sent whole (turn ∷ turns) links others l c =
-    (links ++ c.0, c.1, link_turns_join links c.0 l c.2, ap (λ (ts : List Turn). links ++ ts) c.3 ∙ sym (append_assoc links c.0 c.1), c.4)
 
 -- ---- behind one event, from a wire of the run
 
@@ -50,9 +43,22 @@ IsNext sent whole turn turns rest =
     ⊎ ((other : Turn) × (more : List Turn) × (rest ≡ other ∷ more) × IsTurnCarried sent whole turn other
     × AreCarriedFrom (sent ++ sent_in turn.lines) (whole ++ sent_in other.lines) turns more)
 
+-- more turns that the wire has besides
+more_besides : (sent whole : List Node) (turns besides others : List Turn) → AreBeside besides → AreCarriedFrom sent (whole ++ sent_among besides) turns others
+    → AreCarriedFrom sent whole turns (besides ++ others)
+more_besides sent whole [] besides others are c = besides_join besides others are c
+more_besides sent whole (turn ∷ turns) besides others are c = (
+  besides ++ c.0,
+  c.1,
+  besides_join besides c.0 are c.2,
+  ap (λ (ts : List Turn). besides ++ ts) c.3 ∙ sym (append_assoc besides c.0 c.1),
+  subst (λ (w : List Node). IsNext sent w turn turns c.1)
+      (append_assoc whole (sent_among besides) (sent_among c.0) ∙ ap (λ (ns : List Node). whole ++ ns) (sym (sent_join besides c.0))) c.4,
+)
+
 record IsRunFrom (n : Net) (run : List Happening) : Type 0 where
   pub whole : List Happening
-  pub few : length whole ≤ 3 * length run
+  pub few : length whole ≤ 67 * length run
   pub built : AreBuilt whole
   pub wire : (net_from n run).wire ≡ wire_from n.wire whole
   pub carried : AreCarriedFrom (to_of n.sent) (wires_to n.wire.packets) (turns_from n run) (wire_runs.turns_from n.wire whole)
@@ -77,9 +83,12 @@ module _ (n : Net) (event : Event) (x : NetStep) (more : List Happening) (c : Ca
     linked_carried =
         subst (λ (ts : List Turn). AreCarriedFrom (to_of n.sent ++ sent_in (lines_of n x)) (wires_to u.packets) (turns_from x.net more) ts)
         (ap (λ (w : Wire). wire_runs.turns_from u l.run ++ wire_runs.turns_from w next.whole) (sym l.is) ∙ sym (turns_join u l.run next.whole))
-        (more_links (to_of n.sent ++ sent_in (lines_of n x)) (wires_to u.packets) (turns_from x.net more) (wire_runs.turns_from u l.run) (wire_runs.turns_from x.net.wire next.whole) l.turns
-        (subst (λ (sent : List Node). AreCarriedFrom sent (wires_to u.packets) (turns_from x.net more) (wire_runs.turns_from x.net.wire next.whole)) c.sent
-        (subst (λ (whole : List Node). AreCarriedFrom (to_of x.net.sent) whole (turns_from x.net more) (wire_runs.turns_from x.net.wire next.whole)) (ap wires_to l.packets) next.carried)))
+        (more_besides (to_of n.sent ++ sent_in (lines_of n x)) (wires_to u.packets) (turns_from x.net more) (wire_runs.turns_from u l.run) (wire_runs.turns_from x.net.wire next.whole) l.turns
+        (subst (λ (sent : List Node). AreCarriedFrom sent after (turns_from x.net more) (wire_runs.turns_from x.net.wire next.whole)) c.sent
+        (subst (λ (whole : List Node). AreCarriedFrom (to_of x.net.sent) whole (turns_from x.net more) (wire_runs.turns_from x.net.wire next.whole)) (linked_sends u x.net.wire l) next.carried)))
+      where
+        after : List Node
+        after = wires_to u.packets ++ sent_among (wire_runs.turns_from u l.run)
 
   next_from : IsNextFrom c.v
   next_from = ⊎_elim alone shared c.middle
@@ -105,7 +114,7 @@ module _ (n : Net) (event : Event) (x : NetStep) (more : List Happening) (c : Ca
               record { event = a.other; lines = wires.lines_of c.v s },
               wire_runs.turns_from s.wire (linked s.wire a.behind),
               refl,
-              record { event = a.carried; lines = a.lines },
+              record { event = a.carried; lines = a.lines; none = a.none },
               subst (λ (whole : List Node). AreCarriedFrom (to_of n.sent ++ sent_in (lines_of n x)) whole (turns_from x.net more) (wire_runs.turns_from s.wire (linked s.wire a.behind))) a.packets
                   (linked_carried s.wire a.behind),
             );
@@ -113,7 +122,7 @@ module _ (n : Net) (event : Event) (x : NetStep) (more : List Happening) (c : Ca
 
   record IsBehind : Type 0 where
     pub whole : List Happening
-    pub few : length whole ≤ 3 + length next.whole
+    pub few : length whole ≤ 67 + length next.whole
     pub built : AreBuilt whole
     pub wire : (net_from x.net more).wire ≡ wire_from n.wire whole
     pub carried : AreCarriedFrom (to_of n.sent) (wires_to n.wire.packets) (turn_for n event x ∷ turns_from x.net more) (wire_runs.turns_from n.wire whole)
@@ -121,13 +130,13 @@ module _ (n : Net) (event : Event) (x : NetStep) (more : List Happening) (c : Ca
   behind : IsBehind
   behind = go next_from
     where
-      b : IsLinked n.wire c.v
+      b : IsBesides n.wire c.v
       b = c.before
 
       go : IsNextFrom c.v → IsBehind
       go f = record {
         whole = b.run ++ f.whole;
-        few = let longer = length-append b.run f.whole in let links = b.few in let few = f.few in omega (arith, longer, links, few);
+        few = let longer = length-append b.run f.whole in let besides = c.few in let few = f.few in omega (arith, longer, besides, few);
         built = built_join b.run f.whole b.built f.built;
         wire = f.wire ∙ (ap (λ (w : Wire). wire_from w f.whole) (sym b.is) ∙ sym (from_join n.wire b.run f.whole));
         carried = (
@@ -135,7 +144,7 @@ module _ (n : Net) (event : Event) (x : NetStep) (more : List Happening) (c : Ca
           wire_runs.turns_from c.v f.whole,
           b.turns,
           turns_join n.wire b.run f.whole ∙ ap (λ (w : Wire). wire_runs.turns_from n.wire b.run ++ wire_runs.turns_from w f.whole) b.is,
-          subst (λ (whole : List Node). IsNext (to_of n.sent) whole (turn_for n event x) (turns_from x.net more) (wire_runs.turns_from c.v f.whole)) (ap wires_to b.packets) f.is,
+          subst (λ (whole : List Node). IsNext (to_of n.sent) whole (turn_for n event x) (turns_from x.net more) (wire_runs.turns_from c.v f.whole)) b.packets f.is,
         );
       }
 
@@ -172,7 +181,7 @@ module _ (n : Net) (k : IsSilent n) where
         carries = c;
         silent = record {
           kept = c.kept;
-          sent = ap (λ (outs : List wires.PartOutbox). (carried_on n (record { wire = n.wire; answer = None; counted = []; outs = outs })).net.sent) none ∙ (append-nil n.sent ∙ k.sent);
+          sent = ap (λ (outs : List wires.PartOutbox). (carried_on n (record (wire_step n.wire other lucks) { outs = outs })).net.sent) none ∙ (append-nil n.sent ∙ k.sent);
           packets = d.packets;
           whole = d.whole;
         };

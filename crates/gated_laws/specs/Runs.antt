@@ -43,11 +43,11 @@ abbrev pub TellsHistories : List Happening → Type 0
 TellsHistories run = (table : ℕ) (hosted : Hosted) → hosted_at (net_from start run).wire.world table ≡ Some hosted
     → hosted.history ≡ (hear_lines nothing_said (transcript_of (net_turns run))).history table
 
--- Gateways make of the wire what a run of wires makes of it, and its turns carry those of that run. It has at most two
--- links more for each event.
+-- Gateways make of the wire what a run of wires makes of it, and its turns carry those of that run. For each event it
+-- has at most two links more, and an ask for each table.
 pub record IsRunOfWires (run : List Happening) : Type 0 where
   pub whole : List Happening
-  pub few : length whole ≤ 3 * length run
+  pub few : length whole ≤ 67 * length run
   pub built : AreBuilt whole
   pub wire : (net_from start run).wire ≡ wire_from wires.start whole
   pub carried : AreCarried (net_turns run) (wire_turns whole)

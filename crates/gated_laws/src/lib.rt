@@ -16,11 +16,12 @@ ghost use Rattle.gated_laws.specs.Runs.{AreDeclaredFirst, TellsHistories, IsRunO
 
 /// Whatever comes, in any order, repeated or lost, and whichever gateways crash: the nodes go through a run of wires,
 /// in which a client that has a gateway is cut off too while it has no session. Turn by turn the lines of both are the
-/// same but for the packets that are sent. The wire has turns besides in which a link goes up or down; the run with
-/// gateways has turns besides in which a message comes to a gateway, changes no node, or comes to nobody, in which a
-/// link of a client that has a gateway goes up or down, in which a client asks for a table to be made or dropped, and in
-/// which something is done to a gateway. A message that makes or drops a table at a node is a turn of the wire that does
-/// so.
+/// same but for the packets that are sent. The wire has turns besides in which a link goes up or down, or a client asks
+/// for the next change of a table of which it is told; the run with gateways has turns besides in which a message comes
+/// to a gateway, changes no node, or comes to nobody, in which a link of a client that has a gateway goes up or down, in
+/// which a client asks for a table to be made or dropped or for a subscription to it, in which time ticks, and in which
+/// something is done to a gateway. A message that makes or drops a table at a node, or keeps a subscription there, is a
+/// turn of the wire that does so, and so is an ask that takes a client down which is told of changes.
 pub fn nets_run_as_wires()
     ensures { (run : List Happening) → AreDeclaredFirst run → AreBuilt run → IsRunOfWires run }
 {}

@@ -1,12 +1,14 @@
 -- No gateway has started more often, nor drawn more tokens since, than a run has events.
 use Rattle.std.proofs.Common.{◌≡◌, ⊎_elim, ℕ, suc, ◌+◌, ◌≤◌, Bool, true, false, List, [], ◌∷◌, length, Option, Some, None, refl, sym, ◌∙◌, subst, arith}
-use Rattle.std.specs.Prelude.{◌==◌, ◌&&◌, slice_get, if◌then◌else◌}
+use Rattle.std.specs.Prelude.{◌==◌, ◌&&◌, map, drop, slice_get, if◌then◌else◌}
 use Rattle.std.specs.Ordering.{nat_cmp}
 use Rattle.std.specs.BTreeMap.{insert_entry}
 use Rattle.stab_base.specs.declared.node.Node.{Node}
 use Rattle.stab_base.specs.declared.node.Node.TheVariants as nodes
 use Rattle.table_model.specs.declared.event.Event.{Event}
 use Rattle.table_model.specs.declared.event.Event.TheVariants as events
+use Rattle.table_model.specs.declared.event.NetEvent.{NetEvent}
+use Rattle.table_model.specs.declared.event.NetEvent.TheVariants as nets
 use Rattle.table_model.specs.declared.message.Message.{Message}
 use Rattle.table_model.specs.declared.message.Message.TheVariants as kinds
 use Rattle.row_value.specs.declared.schema.Schema.{Schema}
@@ -16,6 +18,7 @@ use Rattle.table_model.specs.declared.message.OperationResponse.{OperationRespon
 use Rattle.table_model.specs.declared.table_state.TableState.{TableState}
 use Rattle.table_model.specs.declared.table_state.TableState.TheVariants as states
 use Rattle.table_model.specs.declared.message.RestoreClientSubscriptions.{RestoreClientSubscriptions}
+use Rattle.table_model.specs.declared.message.SaveClientSubscription.{SaveClientSubscription}
 use Rattle.step_tables.specs.Messages.{Luck}
 use Rattle.step_tables.specs.Messages as messages
 use Rattle.step_tables.specs.ClientMoves.{Client, ClientTask, table_at, seen}
@@ -38,9 +41,12 @@ use Rattle.wire_tables.specs.Wire.{PartPacket, part_table, wire_step}
 use Rattle.step_tables.specs.Facts as facts
 use Rattle.table_model.specs.declared.message.TableSubscription.{TableSubscription}
 use Rattle.gated_tables.specs.Net.{Net, NetStep, Sent, start, gate_at, device_at, is_node_down, unless_down, has_none, cut_by, restarted, client_taken, answered, if_idle, agenda_in}
-use Rattle.gated_tables.specs.Net.{answer_taken, to_client, restored, to_store, directory_of, gate_done, to_gate, delivered_to, delivered, relinked, linked, joined_by, joined, gate_declared}
+use Rattle.gated_tables.specs.Net.{answer_taken, to_client, restored, to_store, directory_of, to_gate, delivered_to, delivered, relinked, linked, joined, gate_declared}
 use Rattle.gated_tables.specs.Net.{Asker, of_session, says_gone, says_made, answer_heard, is_linked, unless_busy, answering, asked_by, is_schema, creates, drops, to_create, to_drop, turned_away}
 use Rattle.gated_tables.specs.Net.{part_taken, is_shut, unless_away, asks_create, asks_drop, to_ask, is_open, to_give, if_read, to_end}
+use Rattle.gated_tables.specs.Net.{is_client, saves, to_save, has_failed, tables_told, asked_too, asks_each, changes_come, changes_told}
+use Rattle.gated_tables.specs.Net.{notified, token_with, asks_gate, to_subscribe, subscribing, unsubscribing, gate_ticks}
+use Rattle.gated_tables.specs.Net.{gates_tick, ticks, by_net}
 use Rattle.gated_tables.specs.Net.{gate_crashed, gate_started, client_started, net_step}
 use Rattle.gated_tables.specs.Runs.{net_from}
 use Rattle.world_laws.proofs.Looks.{look_cases}
@@ -141,6 +147,33 @@ few_more most gateway f = record { starts = let s = f.starts in omega (arith, s)
     go None d = tt
     go (Some running) d = omega (arith, d)
 
+put_kept : (most : ℕ) (n : Net) → AreGatesFew most n → (number : ℕ) (gateway : Gateway) → IsFew most gateway
+    → AreGatesFew most (record n { gates = insert_entry nat_cmp n.gates number gateway })
+put_kept most n all number gateway here q found at = ⊎_elim
+    (λ e.
+    let same : Some gateway ≡ Some found = sym e.1 ∙ at in
+    let is : gateway ≡ found = cc in
+    subst (IsFew most) is here)
+    (λ e. all q found (sym e.1 ∙ at)) (look_cases n.gates number gateway q)
+
+-- a tick draws none
+gate_ticks_few : (most number : ℕ) (o : Option Gateway) (s : NetStep) → gate_at s.net number ≡ o → AreGatesFew most s.net
+    → AreGatesFew most (gate_ticks number o s).net
+gate_ticks_few most number None s at few = few
+gate_ticks_few most number (Some gateway) s at few = go gateway.running (few number gateway at).drawn
+  where
+    go : (o : Option Running) → HasDrawnFew most o
+        → AreGatesFew most (gate_ticks number (Some (record gateway { running = o })) s).net
+    go None d = few
+    go (Some running) d =
+        put_kept most s.net few number _ (record { starts = (few number gateway at).starts; drawn = d })
+
+gates_tick_few : (most : ℕ) (numbers : List ℕ) (s : NetStep) → AreGatesFew most s.net
+    → AreGatesFew most (gates_tick numbers s).net
+gates_tick_few most [] s few = few
+gates_tick_few most (number ∷ numbers) s few = gates_tick_few most numbers (gate_ticks number (gate_at s.net number) s)
+    (gate_ticks_few most number (gate_at s.net number) s refl few)
+
 module _ (most : ℕ) (n : Net) (all : AreGatesFew most n) where
   -- a step from here
   abbrev AreFewBehind : NetStep → Type 0
@@ -150,9 +183,7 @@ module _ (most : ℕ) (n : Net) (all : AreGatesFew most n) where
   kept number gateway at = few_more most gateway (all number gateway at)
 
   put_few : (number : ℕ) (gateway : Gateway) → IsFew (suc most) gateway → AreGatesFew (suc most) (record n { gates = insert_entry nat_cmp n.gates number gateway })
-  put_few number gateway here q found at = ⊎_elim
-      (λ e. let same : Some gateway ≡ Some found = sym e.1 ∙ at in let is : gateway ≡ found = cc in subst (IsFew (suc most)) is here) (λ e. kept q found (sym e.1 ∙ at))
-      (look_cases n.gates number gateway q)
+  put_few number gateway here = put_kept (suc most) n kept number gateway here
 
   unless_few : (node : Node) (x : NetStep) → AreFewBehind x → AreFewBehind (unless_down n node x)
   unless_few node x f = go (is_node_down n node)
@@ -213,8 +244,40 @@ module _ (most : ℕ) (n : Net) (all : AreGatesFew most n) where
       go true = heard_few c m lucks o
       go false = kept
 
+  -- a client that is told of changes
+  asks_few : (c : ℕ) (tables : List ℕ) (lucks : Lucks) (s : NetStep) → AreFewBehind s
+      → AreFewBehind (asks_each c tables lucks s)
+  asks_few c [] lucks s few = few
+  asks_few c (table ∷ tables) lucks s few =
+      let later : Lucks = record lucks { calls = drop 1 lucks.calls } in
+      let next : NetStep = asked_too s (net.carried_on s.net (wire_step s.net.wire (events.Ask c table) lucks)) in
+      either (has_failed s.answer) (asks_each c tables later next) (asks_few c tables later next few)
+    where
+      either : (b : Bool) (more : NetStep) → AreFewBehind more → AreFewBehind (if b then s else more)
+      either true more f = few
+      either false more f = f
+
+  told_few : (c bits : ℕ) (lucks : Lucks) (o : Option Device) → AreFewBehind (changes_told n c bits lucks o)
+  told_few c bits lucks None = asks_few c (tables_told bits) lucks (changes_come n c bits) kept
+  told_few c bits lucks (Some d) = cut_few c d _ (asks_few c (tables_told bits) lucks (changes_come cut c bits) kept)
+    where
+      cut : Net
+      cut = record n { wire = net.cutting c d.linked n.wire }
+
+  notified_few : (c bits : ℕ) (lucks : Lucks) (o : Option Device) → AreFewBehind (notified n c bits lucks o)
+  notified_few c bits lucks o = go (is_linked n c o)
+    where
+      agenda : Option (List ClientTask)
+      agenda = agenda_in (client_at n.wire.world c)
+
+      go : (b : Bool) → AreFewBehind (if b then if_idle n lucks agenda (changes_told n c bits lucks o)
+          else net.refused n facts.Offline)
+      go true = idle_few lucks agenda (changes_told n c bits lucks o) (told_few c bits lucks o)
+      go false = kept
+
   message_few : (c : ℕ) (p : Sent) (lucks : Lucks) (m : Message) → AreFewBehind (to_client n c (record p { message = m }) lucks None)
   message_few c p lucks (kinds.OperationResponse m) = answer_few c m lucks (device_at n c)
+  message_few c p lucks (kinds.Notify m) = notified_few c m.bitmap lucks (device_at n c)
   message_few c p lucks other = kept
 
   to_client_few : (c : ℕ) (p : Sent) (lucks : Lucks) (o : Option Part) → AreFewBehind (to_client n c p lucks o)
@@ -225,7 +288,7 @@ module _ (most : ℕ) (n : Net) (all : AreGatesFew most n) where
   restored_net s p m (Some table) = kept
   restored_net s p m None = go m.reply
     where
-      go : (b : Bool) → AreFewBehind (if b then net.still n facts.Done else net.sending n (net.restoring s p m ∷ []))
+      go : (b : Bool) → AreFewBehind (if b then net.still n facts.Done else net.sending n (net.restoring n s p m ∷ []))
       go true = kept
       go false = kept
 
@@ -240,7 +303,7 @@ module _ (most : ℕ) (n : Net) (all : AreGatesFew most n) where
   creates_few : (s : ℕ) (a : Asker) (m : CreateTable) (lucks : Lucks) (state : TableState) → AreFewBehind (creates n s a m lucks state)
   creates_few s a m lucks states.Draft = go (is_schema m.schema (schema_at n.wire.world m.table))
     where
-      go : (b : Bool) → AreFewBehind (if b then net.carried_on (asked_by m.table a n) (wire_step n.wire (events.Create (nodes.Store s) m.table) lucks) else answering n m.table a 2 18)
+      go : (b : Bool) → AreFewBehind (if b then net.carried_on (asked_by m.table a n) (wire_step n.wire (events.Create (nodes.Store s) m.table) lucks) else answering n m.table a 18)
       go true = kept
       go false = kept
   creates_few s a m lucks states.Live = kept
@@ -253,11 +316,30 @@ module _ (most : ℕ) (n : Net) (all : AreGatesFew most n) where
 
   to_create_few : (s : ℕ) (p : Sent) (m : CreateTable) (lucks : Lucks) (o : Option Hosted) → AreFewBehind (to_create n s p m lucks o)
   to_create_few s p m lucks None = kept
-  to_create_few s p m lucks (Some hosted) = busy_few hosted _ (creates_few s (record { client = m.client; to = p.from }) m lucks hosted.store.disk.state)
+  to_create_few s p m lucks (Some hosted) = busy_few hosted _ (creates_few s (record { client = m.client; to = p.from; kind = 2 }) m lucks hosted.store.disk.state)
 
   to_drop_few : (s : ℕ) (p : Sent) (m : DropTable) (lucks : Lucks) (o : Option Hosted) → AreFewBehind (to_drop n s p m lucks o)
   to_drop_few s p m lucks None = kept
-  to_drop_few s p m lucks (Some hosted) = busy_few hosted _ (drops_few s (record { client = m.client; to = p.from }) m lucks hosted.store.disk.state)
+  to_drop_few s p m lucks (Some hosted) = busy_few hosted _ (drops_few s (record { client = m.client; to = p.from; kind = 3 }) m lucks hosted.store.disk.state)
+
+  saves_few : (s : ℕ) (a : Asker) (m : SaveClientSubscription) (lucks : Lucks) (state : TableState)
+      → AreFewBehind (saves n s a m lucks state)
+  saves_few s a m lucks states.Draft = kept
+  saves_few s a m lucks states.Live = kept
+  saves_few s a m lucks states.Dropped = kept
+
+  to_save_few : (s : ℕ) (p : Sent) (m : SaveClientSubscription) (lucks : Lucks) (o : Option Hosted)
+      → AreFewBehind (to_save n s p m lucks o)
+  to_save_few s p m lucks None = kept
+  to_save_few s p m lucks (Some hosted) = go (is_client m.client)
+    where
+      a : Asker
+      a = record { client = m.client; to = p.from; kind = if m.on then 4 else 5 }
+
+      go : (b : Bool) → AreFewBehind (if b then unless_busy n hosted (saves n s a m lucks hosted.store.disk.state)
+          else net.still n facts.Done)
+      go true = busy_few hosted _ (saves_few s a m lucks hosted.store.disk.state)
+      go false = kept
 
   turned_few : (p : Sent) (o : Option Asked) → AreFewBehind (turned_away n p o)
   turned_few p None = kept
@@ -266,6 +348,8 @@ module _ (most : ℕ) (n : Net) (all : AreGatesFew most n) where
   store_message : (s : ℕ) (p : Sent) (lucks : Lucks) (m : Message) → AreFewBehind (to_store n s (record p { message = m }) lucks None)
   store_message s p lucks (kinds.CreateTable m) = to_create_few s p m lucks (hosted_by n.wire.world s m.table)
   store_message s p lucks (kinds.DropTable m) = to_drop_few s p m lucks (hosted_by n.wire.world s m.table)
+  store_message s p lucks (kinds.SaveClientSubscription m) =
+      to_save_few s p m lucks (hosted_by n.wire.world s m.table)
   store_message s p lucks (kinds.RestoreClientSubscriptions m) = restored_net s p m (busy_live n.wire.world s)
   store_message s p lucks other = kept
 
@@ -390,6 +474,31 @@ module _ (most : ℕ) (n : Net) (all : AreGatesFew most n) where
       go (Some node) = unless_few (nodes.Client c) _ (reads node (first_luck lucks.calls))
   drop_few table lucks other = kept
 
+  -- ---- a client asks for a subscription, and ticks
+
+  gate_asked_few : (c : ℕ) (lucks : Lucks) (node : Client) (m : Message) (o : Option Device)
+      → AreFewBehind (asks_gate n c lucks node m o)
+  gate_asked_few c lucks node m None = kept
+  gate_asked_few c lucks node m (Some d) = away_few c lucks node _ kept
+
+  subscribe_few : (c : ℕ) (lucks : Lucks) (message : ℕ → Message) (o : Option Client)
+      → AreFewBehind (to_subscribe n c lucks message o)
+  subscribe_few c lucks message None = kept
+  subscribe_few c lucks message (Some node) = unless_few (nodes.Client c) _
+      (gate_asked_few c lucks node (message (token_with (device_at n c))) (device_at n c))
+
+  ticks_few : AreFewBehind (ticks n)
+  ticks_few number gateway at =
+      few_more most gateway (gates_tick_few most (map (λ (e : ℕ × Gateway). e.0) n.gates) (net.still n facts.Done) all number gateway at)
+
+  net_few : (lucks : Lucks) (it : NetEvent) → AreFewBehind (by_net n lucks it)
+  net_few lucks (nets.Subscribe c table period tolerance) =
+      subscribe_few c lucks (subscribing c table period tolerance) (client_at n.wire.world c)
+  net_few lucks (nets.Unsubscribe c table) =
+      subscribe_few c lucks (unsubscribing c table) (client_at n.wire.world c)
+  net_few lucks (nets.WriteSync c table period tolerance) = kept
+  net_few lucks nets.Tick = ticks_few
+
   -- ---- any event
 
   step_few : (event : Event) (lucks : Lucks) → AreFewBehind (net_step n event lucks)
@@ -399,6 +508,7 @@ module _ (most : ℕ) (n : Net) (all : AreGatesFew most n) where
   step_few (events.Link c up) lucks = linked_few c up lucks (device_at n c)
   step_few (events.Create node table) lucks = create_few table lucks node
   step_few (events.Drop node table) lucks = drop_few table lucks node
+  step_few (events.Net it) lucks = net_few lucks it
   step_few (events.Start (nodes.Client c)) lucks = started_few c lucks
   step_few (events.Hold (nodes.Gate number)) lucks = unless_few (nodes.Gate number) _ kept
   step_few (events.Free (nodes.Gate number)) lucks = unless_few (nodes.Gate number) _ kept

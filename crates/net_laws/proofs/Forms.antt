@@ -65,6 +65,7 @@ lone_has (events.Deliver packet) lines a = are_lone lines a
 lone_has (events.Link client up) lines a = are_lone lines a
 lone_has (events.Create node table) lines a = are_asking lines a
 lone_has (events.Drop node table) lines a = are_asking lines a
+lone_has (events.Net it) lines a = are_asking lines a
 lone_has (events.Hold (nodes.Gate number)) lines is = is_one _ lines is tt
 lone_has (events.Free (nodes.Gate number)) lines is = is_one _ lines is tt
 lone_has (events.Work (nodes.Gate number)) lines is = ⊎_elim (λ e. is_one _ lines e tt) (λ e. is_one _ lines e tt) is

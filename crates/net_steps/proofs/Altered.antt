@@ -1,5 +1,5 @@
 -- A client opens a table or closes it, as an event of the wire.
-use Rattle.std.proofs.Common.{◌≡◌, inl, inr, ⊎_elim, ℕ, ◌+◌, Bool, false, List, Result, Ok, Err, refl, sym, ◌∙◌, subst, arith}
+use Rattle.std.proofs.Common.{◌≡◌, inl, inr, ⊎_elim, ℕ, suc, ◌+◌, Bool, false, List, Result, Ok, Err, refl, sym, ◌∙◌, subst, arith}
 use Rattle.std.specs.Prelude.{IfOk, IfErr}
 use Rattle.disk_trait.specs.Calls.{DiskState}
 use Rattle.stab_base.specs.declared.node.Node.TheVariants as nodes
@@ -27,6 +27,7 @@ use Rattle.net_steps.specs.Holds.{Holds}
 use Rattle.net_steps.specs.Steps.{IsMoved, HavePlansBelow, may_begin}
 use Rattle.net_steps.specs.Through.{IsBeyond, IsStood, IsThrough}
 use Rattle.net_steps.proofs.Carried.{asked_stay, carried_held, gates_stay, wire_of}
+use Rattle.net_steps.proofs.Delivered.{number_up}
 
 -- ---- which events these are
 
@@ -58,10 +59,10 @@ alters_shown c (events.Drop (nodes.Gate k) table) a v lucks = absurd a
 alters_shown c other a v lucks = absurd a
 
 alters_spends : (c : ℕ) (event : Event) → AltersAt c event → (m : ℕ) (n : Net) → wires.Spends m n.wire.world event → SpendsHere m n
-alters_spends c (events.Create (nodes.Client d) table) a m n k = inl (inr (d, k))
+alters_spends c (events.Create (nodes.Client d) table) a m n k = inl (inr (d, number_up (suc (suc m)) (suc (suc (64 + m))) n.wire.world d (omega arith) k))
 alters_spends c (events.Create (nodes.Store i) table) a m n k = absurd a
 alters_spends c (events.Create (nodes.Gate i) table) a m n k = absurd a
-alters_spends c (events.Drop (nodes.Client d) table) a m n k = inl (inr (d, k))
+alters_spends c (events.Drop (nodes.Client d) table) a m n k = inl (inr (d, number_up (suc (suc m)) (suc (suc (64 + m))) n.wire.world d (omega arith) k))
 alters_spends c (events.Drop (nodes.Store i) table) a m n k = absurd a
 alters_spends c (events.Drop (nodes.Gate i) table) a m n k = absurd a
 alters_spends c other a m n k = absurd a
@@ -93,7 +94,7 @@ module _ {D : Type 0} (state : D → DiskState) (images : D → ℕ → List ℕ
       → IsMoved state images n (is_fault_answer (wire_step n.wire event lucks).answer) (wire_step n.wire event lucks).wire is_out old new
   shown lucks k = subst (λ (b : Bool). IsMoved state images n b (wire_step n.wire event lucks).wire is_out old new) (alters_shown c event a n.wire lucks) k
 
-  more_plans : (m : ℕ) → HavePlansBelow state (may_begin n event + m) new → HavePlansBelow state (3 + m) new
+  more_plans : (m : ℕ) → HavePlansBelow state (may_begin n event + m) new → HavePlansBelow state (64 + m) new
   more_plans m k = let one = subst (λ (j : ℕ). HavePlansBelow state (j + m) new) (alters_begins c event a n) k in
       λ d node at declared. let few = one d node at declared in omega (arith, few)
 

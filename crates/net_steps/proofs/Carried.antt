@@ -1,5 +1,5 @@
 -- What a step of the wire is to the world, and what it leaves of the rest.
-use Rattle.std.proofs.Common.{◌≡◌, inl, inr, ℕ, ◌≤◌, ◌<◌, Bool, true, false, List, [], ◌++◌, Some, refl, sym, ◌∙◌, ap, subst, true≢false, arith}
+use Rattle.std.proofs.Common.{◌≡◌, inl, inr, ℕ, ◌+◌, ◌≤◌, ◌<◌, Bool, true, false, List, [], ◌++◌, Some, refl, sym, ◌∙◌, ap, subst, true≢false, arith}
 use Rattle.std.specs.Prelude.{map}
 use Rattle.std.specs.Ordering.{nat_cmp}
 use Rattle.std.specs.Map.{lookup}
@@ -34,10 +34,13 @@ use Rattle.net_network.specs.Packets.{HasSent, net_bytes}
 use Rattle.net_network.specs.declared.network.Network.{Network}
 use Rattle.wire_steps.specs.Holds as holds
 use Rattle.wire_steps.specs.Reached as wire_reached
+use Rattle.wire_steps.specs.Steps as wire_moves
+use Rattle.wire_steps.specs.declared.world.World as wire_world
 use Rattle.net_steps.specs.declared.world.World.{World}
 use Rattle.net_steps.specs.Askers.{AreAsked, HoldsAskers}
 use Rattle.net_steps.specs.Devices.{HoldsDevices}
 use Rattle.net_steps.specs.Holds.{Holds}
+use Rattle.net_steps.specs.Steps.{may_begin}
 use Rattle.net_steps.specs.Carrying.{AreSame, IsToCarry, IsCarried, IsPlainStep}
 use Rattle.net_steps.specs.Walking.{IsSameTable}
 use Rattle.net_steps.proofs.Routed.{bytes_carried}
@@ -192,3 +195,16 @@ over_carried state n v r same event lucks s is old h over =
     (bytes_behind n s h.bytes
     (subst (λ (x : WireStep). x.wire.packets ≡ n.wire.packets ++ packets_by x.outs) (sym is)
     (packets_grow v r event lucks ∙ ap (λ (ps : List PartPacket). ps ++ packets_by (wire_step v event lucks).outs) same)))
+
+-- ---- plans
+
+-- an event begins no more on the wire
+begins_less : (n : Net) (event : Event) → wire_moves.may_begin n.wire.world event ≤ may_begin n event
+begins_less n (events.Deliver packet) = omega arith
+begins_less n other = omega arith
+
+pub begun_here : {D : Type 0} (state : D → DiskState) (n : Net) (event : Event) (m : ℕ) (wire : wire_world.World D) → wire_moves.HavePlansBelow state (wire_moves.may_begin n.wire.world event + m) wire
+    → wire_moves.HavePlansBelow state (may_begin n event + m) wire
+begun_here state n event m wire k =
+    let less = begins_less n event in
+    λ d node at declared. let few = k d node at declared in omega (arith, few, less)

@@ -1,5 +1,5 @@
 -- What a delivery comes to, where nothing is done to the wire.
-use Rattle.std.proofs.Common.{◌≡◌, ◌≢◌, inl, inr, ⊎_elim, ℕ, suc, ◌+◌, Bool, false, List, [], ◌∷◌, map, None, Result, Ok, Err, refl, sym, ◌∙◌, ap, subst, arith}
+use Rattle.std.proofs.Common.{◌≡◌, ◌≢◌, inl, inr, ⊎_elim, ℕ, suc, ◌+◌, ◌≤◌, Bool, false, List, [], ◌∷◌, map, None, Result, Ok, Err, refl, sym, ◌∙◌, ap, subst, arith}
 use Rattle.std.specs.Prelude.{IfOk, IfErr, slice_get, length}
 use Rattle.disk_trait.specs.Calls.{DiskState}
 use Rattle.disk_trait.specs.Image.{IsImage}
@@ -10,17 +10,17 @@ use Rattle.step_tables.specs.Facts.{Answer, AnswerLine}
 use Rattle.step_tables.specs.Facts as facts
 use Rattle.step_tables.specs.Lines.{line_of}
 use Rattle.world_tables.specs.Faults.{is_fault_answer}
-use Rattle.world_tables.specs.World.{Lucks, no_lucks, is_fault}
+use Rattle.world_tables.specs.World.{World as AWorld, Lucks, no_lucks, is_fault}
 use Rattle.gated_tables.specs.Net.{Net, NetStep, net_step, still}
 use Rattle.gated_laws.specs.Runs.{IsReached}
 use Rattle.net_network.specs.Packets.{IsWayAt}
 use Rattle.node_steps.specs.declared.fault.WorldFault.{WorldFault}
 use Rattle.node_steps.specs.declared.fault.WorldFault.TheVariants.{Memory, Depot as DepotFailed, Limit as LimitPassed}
 use Rattle.node_steps.specs.Holds.{AreOut}
+use Rattle.node_steps.specs.Steps.{SpendsNumber}
 use Rattle.wire_steps.specs.Calls.{SpendsAny, IsLimitedBy}
 use Rattle.wire_steps.specs.Sending.{IsSendFault}
-use Rattle.wire_steps.proofs.Answered.{plans_later, send_limited}
-use Rattle.wire_steps.proofs.Stepped.{plans_as}
+use Rattle.wire_steps.proofs.Answered.{send_limited}
 use Rattle.net_steps.specs.declared.world.World.{World}
 use Rattle.net_steps.specs.Holds.{Holds}
 use Rattle.net_steps.specs.Steps.{IsMoved, IsDone, IsPast, IsUndone, HavePlansBelow}
@@ -47,10 +47,18 @@ never_past P e is count over = absurd (let both : Memory ≡ LimitPassed 10 coun
 
 module _ {D : Type 0} (state : D → DiskState) where
   -- so many plans more may be begun
-  pub plans_more : (m : ℕ) (world : World D) → HavePlansBelow state m world → HavePlansBelow state (3 + m) world
-  plans_more m world k =
-      plans_as state (suc (suc (suc m))) (3 + m) (omega arith) world.wire
-      (plans_later state (suc (suc m)) world.wire.nodes (plans_later state (suc m) world.wire.nodes (plans_later state m world.wire.nodes k)))
+  pub plans_up : (a b : ℕ) (world : World D) → a ≤ b → HavePlansBelow state a world → HavePlansBelow state b world
+  plans_up a b world less k = λ d node at declared. let few = k d node at declared in omega (arith, few, less)
+
+  pub plans_more : (m : ℕ) (world : World D) → HavePlansBelow state m world → HavePlansBelow state (64 + m) world
+  plans_more m world k = plans_up m (64 + m) world (omega arith) k
+
+-- or were begun
+pub number_up : (a b : ℕ) (w : AWorld) (c : ℕ) → a ≤ b → SpendsNumber a w c → SpendsNumber b w c
+number_up a b w c less k = ⊎_elim (λ last. inl last) (λ all. inr (omega (arith, all, less))) k
+
+pub spends_up : (a b : ℕ) (w : AWorld) → a ≤ b → SpendsAny a w → SpendsAny b w
+spends_up a b w less k = ⊎_elim (λ full. inl full) (λ s. inr (s.0, number_up a b w s.0 less s.1)) k
 
 module _ {D : Type 0} (state : D → DiskState) (images : D → ℕ → List ℕ → Type 0) (n : Net) where
   -- a step that is the same
@@ -175,7 +183,7 @@ module _ {D : Type 0} (state : D → DiskState) (images : D → ℕ → List ℕ
 
     wire_limits : (m : ℕ) (result : Result (List TextLine) WorldFault) → IsLimitedBy (SpendsAny (suc (suc m)) n.wire.world) result → IsLimitedBy (SpendsHere m n) result
     wire_limits m (Ok lines) k = tt
-    wire_limits m (Err e) k = λ code count is. ⊎_elim (λ ten. inl ten) (λ spent. inr (spent.0, inl spent.1)) (k code count is)
+    wire_limits m (Err e) k = λ code count is. ⊎_elim (λ ten. inl ten) (λ spent. inr (spent.0, inl (spends_up (suc (suc m)) (suc (suc (64 + m))) n.wire.world (omega arith) spent.1))) (k code count is)
 
     pub wire_delivers : (result : Result (List TextLine) WorldFault) → Brings state images n n.wire packet result is_after old new
         → Delivers state images n (step_brought n n.wire packet) result is_after old new
@@ -183,7 +191,7 @@ module _ {D : Type 0} (state : D → DiskState) (images : D → ℕ → List ℕ
       done = wire_dones result b.done;
       over = wire_overs result b.over;
       limit = λ m below. wire_limits m result (b.limit m below);
-      plans = b.plans;
+      plans = λ m below. plans_up state (3 + m) (64 + m) new (omega arith) (b.plans m below);
       apart = b.apart;
     }
 

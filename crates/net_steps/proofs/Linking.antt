@@ -21,6 +21,7 @@ use Rattle.store_host.specs.declared.host.StoreHost.{StoreHost}
 use Rattle.gated_laws.proofs.Reached.{kept_net, reached_wire, cutting_reached}
 use Rattle.gated_laws.proofs.KeptNets.{IsKeptNet}
 use Rattle.gated_laws.proofs.KeptWires.{IsLinked, cut_linked, step_keeps}
+use Rattle.net_steps.proofs.Delivered.{plans_up, spends_up}
 use Rattle.node_steps.specs.declared.fault.WorldFault.{WorldFault}
 use Rattle.node_steps.specs.declared.fault.WorldFault.TheVariants.{Limit as LimitPassed}
 use Rattle.node_steps.specs.declared.world.World.{World as Nodes}
@@ -219,7 +220,11 @@ module _ {D : Type 0} (state : D → DiskState) (images : D → ℕ → List ℕ
       limits : (m : ℕ) (result : Result (List TextLine) WorldFault) → IsLimitedBy (SpendsAny (suc (suc m)) cut.world) result → IsLimitedBy (SpendsHere m n) result
       limits m (Ok lines) k = tt
       limits m (Err e) k = λ code count is. ⊎_elim (λ ten. inl ten)
-          (λ spent. inr (spent.0, inl (spends_same (suc (suc m)) n.wire.world cut.world (hosted_same c d.linked n.wire.world) (clients_same c d.linked n.wire.world) spent.1)))
+          (λ spent. inr (
+            spent.0,
+            inl (spends_up (suc (suc m)) (suc (suc (64 + m))) n.wire.world (omega arith)
+                (spends_same (suc (suc m)) n.wire.world cut.world (hosted_same c d.linked n.wire.world) (clients_same c d.linked n.wire.world) spent.1)),
+          ))
           (k code count is)
 
       dones : (result : Result (List TextLine) WorldFault) → IfOk result (λ lines. (lucks : Lucks) × IsBrought state images n cut packet lucks lines is_after mid next)
@@ -240,6 +245,6 @@ module _ {D : Type 0} (state : D → DiskState) (images : D → ℕ → List ℕ
         done = dones result b.done;
         over = overs result b.over;
         limit = λ m below. limits m result (b.limit m (plans1 m below));
-        plans = λ m below. plans2 (3 + m) (b.plans m (plans1 m below));
+        plans = λ m below. plans_up state (3 + m) (64 + m) new (omega arith) (plans2 (3 + m) (b.plans m (plans1 m below)));
         apart = b.apart;
       }

@@ -163,9 +163,10 @@ changes_short w from other = tt
 
 parts_short : (n : Net) (w : World) (ps : List PartPacket) → AreShort (flat_map (passed_with n w) ps)
 parts_short n w [] = tt
-parts_short n w (p ∷ ps) =
-    ((λ none. absurd (let e : Some p.part ≡ None = sym (routed_part n p) ∙ none in cc)),
-    short_join (changes_by w p.from p.part) (flat_map (passed_with n w) ps) (changes_short w p.from p.part) (parts_short n w ps))
+parts_short n w (p ∷ ps) = (
+  (λ none. absurd (let e : Some p.part ≡ None = sym (routed_part n p) ∙ none in cc)),
+  short_join (changes_by w p.from p.part) (flat_map (passed_with n w) ps) (changes_short w p.from p.part) (parts_short n w ps),
+)
 
 pub register_short : (c : ℕ) → IsClient c → IsShort (register c)
 register_short c is = record { least = is.least; most = is.most }

@@ -32,7 +32,7 @@ use Rattle.message_parts.specs.Parts.{part_of}
 use Rattle.part_network.specs.Packets.{bytes_of}
 use Rattle.gated_tables.specs.Devices.{Device, is_online}
 use Rattle.wire_tables.specs.Wire.{wire_step}
-use Rattle.gated_tables.specs.Net.{Net, NetStep, Sent, agenda_in, answered, answer_heard, answer_taken, asks_again, asks_session, busy_with, carried_on, cutting, device_at, if_idle, is_linked, lines_of, of_session, restored, restoring, says_gone, says_made, sending, sent_lines, still, to_client, to_create, to_drop, to_save, to_store, with_device}
+use Rattle.gated_tables.specs.Net.{Net, NetStep, Sent, agenda_in, answered, answer_heard, answer_taken, asks_again, asks_session, busy_with, carried_on, cutting, device_at, if_idle, is_linked, lines_of, notified, of_session, restored, restoring, says_gone, says_made, sending, sent_lines, still, to_client, to_create, to_drop, to_save, to_store, with_device}
 use Rattle.gated_laws.proofs.Reached.{kept_net}
 use Rattle.net_network.specs.Packets.{HasSent, net_bytes, whole_in, whole_of, unless_part}
 use Rattle.net_network.specs.Short.{IsShort}
@@ -45,7 +45,10 @@ use Rattle.net_steps.specs.declared.world.World.{World}
 use Rattle.net_steps.specs.Carrying.{AreSent, IsOverFault}
 use Rattle.net_steps.specs.Holds.{Holds, AreShort, IsShortSent}
 use Rattle.net_steps.specs.Steps.{IsMoved, IsDone, IsPast, HavePlansBelow, all_faults}
-use Rattle.net_steps.specs.Delivering.{IsUpIn, IsLinkedIn, IsComing, Delivers, made_heard, response_in, told_in, step_begun}
+use Rattle.net_steps.specs.Delivering.{IsUpIn, IsLinkedIn, IsComing, Delivers, made_heard, told_in, step_begun}
+use Rattle.net_steps.specs.Notifying.{heard_in}
+use Rattle.net_steps.specs.declared.session.Heard.{Heard}
+use Rattle.net_steps.specs.declared.session.Heard.TheVariants as heard
 use Rattle.net_steps.specs.declared.tables.Told.{Told}
 use Rattle.net_steps.specs.declared.tables.Told.TheVariants as tells
 use Rattle.net_steps.proofs.Moved.{still_moved, linked_moved}
@@ -263,18 +266,20 @@ told_step n store p lucks (tells.Save m) = to_save n store p m lucks (hosted_by 
 told_step n store p lucks (tells.Restore m) = restored n store p m (busy_live n.wire.world store)
 told_step n store p lucks tells.Nothing = still n facts.Done
 
+-- and a client
+abbrev pub heard_step : Net → ℕ → Lucks → Heard → NetStep
+heard_step n c lucks (heard.Answer m) = answer_taken n c m lucks (device_at n c)
+heard_step n c lucks (heard.Changes bits) = notified n c bits lucks (device_at n c)
+heard_step n c lucks heard.Nothing = still n facts.Done
+
 module _ (n : Net) (from to : Node) (lucks : Lucks) where
   abbrev with : Message → Sent
   with message = record { from = from; to = to; message = message }
 
-  by_response : (c : ℕ) (message : Message) (m : OperationResponse) → response_in (Some message) ≡ Some m
-      → to_client n c (with message) lucks None ≡ answer_taken n c m lucks (device_at n c)
-  by_response c (messages.OperationResponse k) m e = let same : k ≡ m = some_is k m e in ap (λ (x : OperationResponse). answer_taken n c x lucks (device_at n c)) same
-  by_response c other m e = absurd (let none : None ≡ Some m = e in cc)
-
-  by_other : (c : ℕ) (message : Message) → response_in (Some message) ≡ None → to_client n c (with message) lucks None ≡ still n facts.Done
-  by_other c (messages.OperationResponse k) e = absurd (let some : Some k ≡ None = e in cc)
-  by_other c other e = refl
+  by_heard : (c : ℕ) (message : Message) → to_client n c (with message) lucks None ≡ heard_step n c lucks (heard_in (Some message))
+  by_heard c (messages.OperationResponse m) = refl
+  by_heard c (messages.Notify m) = refl
+  by_heard c other = refl
 
   by_told : (store : ℕ) (message : Message) → to_store n store (with message) lucks None ≡ told_step n store (with message) lucks (told_in (Some message))
   by_told store (messages.CreateTable m) = refl
@@ -307,12 +312,9 @@ module _ {D : Type 0} (state : D → DiskState) (is_out : ℕ → Bool) (number 
     found_is : found ≡ Some x.one.message
     found_is = read ∙ whole_there (slice_get x.n.sent number) x.one x.stands x.part_is
 
-    pub client_answers : (m : OperationResponse) → response_in found ≡ Some m → (lucks : Lucks)
-        → to_client x.n c x.one lucks (part_of x.one.message) ≡ answer_taken x.n c m lucks (device_at x.n c)
-    client_answers m e lucks = ap (to_client x.n c x.one lucks) x.part_is ∙ by_response x.n x.one.from x.one.to lucks c x.one.message m (sym (ap response_in found_is) ∙ e)
-
-    pub client_ignores : response_in found ≡ None → (lucks : Lucks) → to_client x.n c x.one lucks (part_of x.one.message) ≡ still x.n facts.Done
-    client_ignores e lucks = ap (to_client x.n c x.one lucks) x.part_is ∙ by_other x.n x.one.from x.one.to lucks c x.one.message (sym (ap response_in found_is) ∙ e)
+    pub client_hears : (it : Heard) → heard_in found ≡ it → (lucks : Lucks) → to_client x.n c x.one lucks (part_of x.one.message) ≡ heard_step x.n c lucks it
+    client_hears it e lucks = ap (to_client x.n c x.one lucks) x.part_is
+        ∙ (by_heard x.n x.one.from x.one.to lucks c x.one.message ∙ ap (heard_step x.n c lucks) (sym (ap heard_in found_is) ∙ e))
 
   module _ (store : ℕ) (x : IsComing state is_out number from (nodes.Store store) None old) (found : Option Message) (read : found ≡ whole_in (slice_get x.n.sent number)) where
     found_at : found ≡ Some x.one.message

@@ -119,7 +119,7 @@ module _ {D : Type 0} (state : D → DiskState) (images : D → ℕ → List ℕ
   abbrev step_at : Lucks → WireStep
   step_at lucks = wire_step n.wire event lucks
 
-  more_plans : (m : ℕ) (wire : wire_world.World D) → wires.HavePlansBelow state (may_begin n event + m) wire → wires.HavePlansBelow state (3 + m) wire
+  more_plans : (m : ℕ) (wire : wire_world.World D) → wires.HavePlansBelow state (may_begin n event + m) wire → wires.HavePlansBelow state (64 + m) wire
   more_plans m wire k = let one = subst (λ (j : ℕ). wires.HavePlansBelow state (j + m) wire) (alters_begins event a n) k in
       λ d node at declared. let few = one d node at declared in omega (arith, few)
 

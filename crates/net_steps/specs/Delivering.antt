@@ -45,7 +45,7 @@ use Rattle.net_steps.specs.Steps.{IsDone, IsPast, IsUndone, HavePlansBelow, Gate
 
 -- what a delivery can spend
 abbrev pub SpendsHere : ℕ → Net → Type 0
-SpendsHere m n = SpendsAny (suc (suc m)) n.wire.world ⊎ GateSpends n
+SpendsHere m n = SpendsAny (suc (suc (64 + m))) n.wire.world ⊎ GateSpends n
 
 -- It comes to this step, with some lucks, or ends the run.
 pub record Delivers {D : Type 0} (state : D → DiskState) (images : D → ℕ → List ℕ → Type 0) (n : Net)
@@ -56,7 +56,7 @@ pub record Delivers {D : Type 0} (state : D → DiskState) (images : D → ℕ �
   pub over : IfErr result (λ e. (count : ℕ) → e ≡ LimitPassed 10 count → (lucks : Lucks)
       × IsPast state images n (f lucks) (is_fault_answer (f lucks).answer) is_out old new)
   pub limit : (m : ℕ) → HavePlansBelow state m old → IsLimitedBy (SpendsHere m n) result
-  pub plans : (m : ℕ) → HavePlansBelow state m old → HavePlansBelow state (3 + m) new
+  pub plans : (m : ℕ) → HavePlansBelow state m old → HavePlansBelow state (64 + m) new
   pub apart : IfErr result (λ e. e ≢ DepotFailed)
 
 -- The same where a disk may be asked for: without one nothing has changed.
@@ -68,7 +68,7 @@ pub record ComesTo {D : Type 0} (state : D → DiskState) (images : D → ℕ �
   pub over : IfErr result (λ e. (count : ℕ) → e ≡ LimitPassed 10 count → (lucks : Lucks)
       × IsPast state images n (f lucks) (is_fault_answer (f lucks).answer) is_out old new)
   pub limit : (m : ℕ) → HavePlansBelow state m old → IsLimitedBy (SpendsHere m n) result
-  pub plans : (m : ℕ) → HavePlansBelow state m old → HavePlansBelow state (3 + m) new
+  pub plans : (m : ℕ) → HavePlansBelow state m old → HavePlansBelow state (64 + m) new
   pub left : IfErr result (λ e. e ≡ DepotFailed → IsUndone state n is_out old new)
 
 -- ---- what is known
@@ -157,14 +157,8 @@ step_begun n c m d = if (m.status == 0) && (m.answered == 1)
     then still (with_device c (record d { token = Some m.token }) n) facts.Done
     else still n facts.Done
 
--- ---- which messages a node answers
+-- ---- what is asked of a Store
 
--- the owner's answer to a client, or a gateway's
-abbrev pub response_in : Option Message → Option OperationResponse
-response_in (Some (messages.OperationResponse m)) = Some m
-response_in other = None
-
--- what is asked of a Store
 abbrev pub told_in : Option Message → Told
 told_in (Some (messages.CreateTable m)) = tells.Create m
 told_in (Some (messages.DropTable m)) = tells.Drop m

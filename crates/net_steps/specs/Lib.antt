@@ -13,4 +13,5 @@ pub mod Walking
 pub mod Changing
 pub mod Delivering
 pub mod Requesting
+pub mod Notifying
 pub mod Ticking

@@ -1,5 +1,5 @@
 -- What a step of the world promises.
-use Rattle.std.specs.Prelude.{◌≡◌, ◌⊎◌, ℕ, ◌<◌, ◌≤◌, Bool, true, false, List, map, Option, Some, None}
+use Rattle.std.specs.Prelude.{◌≡◌, ◌⊎◌, ℕ, ◌+◌, ◌<◌, ◌≤◌, Bool, true, false, List, map, Option, Some, None}
 use Rattle.disk_trait.specs.Calls.{DiskState}
 use Rattle.stab_base.specs.declared.node.Node.TheVariants as nodes
 use Rattle.table_model.specs.declared.event.Event.{Event}
@@ -70,8 +70,9 @@ pub record IsUndone {D : Type 0} (state : D → DiskState) (n : Net) (is_out : �
 abbrev pub HavePlansBelow : {D : Type 0} → (D → DiskState) → ℕ → World D → Type 0
 HavePlansBelow state m world = wires.HavePlansBelow state m world.wire
 
--- how many plans an event may begin
+-- how many plans an event may begin, as on the wire: a client that is told of changes asks for those of 64 tables
 abbrev pub may_begin : Net → Event → ℕ
+may_begin n (events.Deliver packet) = 64
 may_begin n event = wires.may_begin n.wire.world event
 
 -- ---- what can be spent
@@ -89,6 +90,6 @@ pub record GateSpends (n : Net) : Type 0 where
 
 -- a number of a write or of a plan, a version, a start of a gateway or a token above the last would be needed
 abbrev pub Spends : ℕ → Net → Event → Type 0
-Spends m n (events.Deliver packet) = wires.Spends m n.wire.world (events.Deliver packet) ⊎ GateSpends n
+Spends m n (events.Deliver packet) = wires.Spends (64 + m) n.wire.world (events.Deliver packet) ⊎ GateSpends n
 Spends m n (events.Start (nodes.Gate number)) = GateSpends n
 Spends m n event = wires.Spends m n.wire.world event

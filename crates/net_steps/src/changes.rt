@@ -69,12 +69,11 @@ impl<D: Disk + Drop> World<D> {
         ensures only { IfErr result IsSendFault }
         ensures same { self.new ≡ record self.old { network = self.new.network } }
     {
-        let message =
-            Message::TableVersionUpdateNotification(TableVersionUpdateNotification {
-                gate,
-                table: change.table,
-                version: change.version,
-            });
+        let message = Message::TableVersionUpdateNotification(TableVersionUpdateNotification {
+            gate,
+            table: change.table,
+            version: change.version,
+        });
         self.send(from, Node::Gate(gate), &message, lines)
     }
 

@@ -16,6 +16,7 @@ mod hand;
 mod joining;
 mod kinds;
 mod links;
+mod notify;
 mod reading;
 mod restore;
 mod saving;

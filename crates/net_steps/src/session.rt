@@ -1,4 +1,4 @@
-//! What a client makes of an answer: that it has a session, or none any more; that a table is made, or isn't live.
+//! What a client makes of an answer: that it has a session, or none any more; that a table is there, or isn't live.
 ghost use Rattle.std.specs.Prelude.{◌≡◌, ◌==◌, ◌&&◌, ℕ, Bool, Some, None, option_map};
 ghost use Rattle.disk_trait.specs.Calls.{IsCounted};
 ghost use Rattle.stab_base.specs.declared.node.Node.{Node as ANode};
@@ -14,7 +14,8 @@ ghost use Rattle.node_steps.specs.declared.fault.WorldFault.TheVariants.{Depot a
 ghost use Rattle.net_steps.specs.Holds.{Holds};
 ghost use Rattle.net_steps.specs.Devices.{device_of};
 ghost use Rattle.net_steps.specs.Delivering.{AltersAt, ComesTo, Delivers, IsComing, IsLinkedIn, IsUpIn, made_heard};
-ghost use Rattle.net_steps.specs.Delivering.{response_in, step_begun};
+ghost use Rattle.net_steps.specs.Delivering.{step_begun};
+ghost use Rattle.net_steps.specs.Notifying.{heard_in};
 
 use crate::device::Device;
 use crate::world::World;
@@ -23,12 +24,22 @@ use node_steps::{Lines, WorldFault};
 use stab_base::{ClientNo, Node};
 use table_model::{Answer, Event, Message, OperationResponse, Refusal};
 
-fn response_in(message: Option<Message>) -> Option<OperationResponse>
-    ensures { result ≡ response_in message }
+/// What a client hears of a message that is no part.
+#[derive(Debug, Drop)]
+pub(crate) enum Heard {
+    Answer(OperationResponse),
+    /// The tables of these bits have changed.
+    Changes(u64),
+    Nothing,
+}
+
+fn heard_in(message: Option<Message>) -> Heard
+    ensures { result ≡ heard_in message }
 {
     match message {
-        Some(Message::OperationResponse(response)) => Some(response),
-        _ => None,
+        Some(Message::OperationResponse(response)) => Heard::Answer(response),
+        Some(Message::Notify(notice)) => Heard::Changes(notice.bitmap),
+        _ => Heard::Nothing,
     }
 }
 
@@ -47,7 +58,7 @@ fn says_gone(answer: &OperationResponse) -> bool
 fn says_made(answer: &OperationResponse) -> bool
     ensures { result ≡ says_made answer.now }
 {
-    answer.status == 0 && answer.answered == 2
+    answer.status == 0 && (answer.answered == 2 || answer.answered == 4)
 }
 
 fn begins_session(answer: &OperationResponse) -> bool
@@ -239,8 +250,8 @@ impl<D: Disk + Drop> World<D> {
         self.alter_client(depot, client, &event)
     }
 
-    // Whether a client's link is up: that to its gateway, where it has one.
-    fn is_linked(&self, client: ClientNo, device: Option<Device>) -> bool
+    /// Whether a client's link is up: that to its gateway, where it has one.
+    pub(crate) fn is_linked(&self, client: ClientNo, device: Option<Device>) -> bool
         ensures { (n : Net) → Holds D.state n self.now
             → result ≡ is_linked n client (option_map device_of device) }
     {
@@ -287,9 +298,10 @@ impl<D: Disk + Drop> World<D> {
         ensures depot { IsCounted DepotFailed (P.state depot.old).faults (P.state depot.new).faults result }
     {
         let found = self.network.read(self.alloc, number)?;
-        match response_in(found) {
-            Some(answer) => self.take_answer(depot, client, &answer),
-            None => self.only(Answer::Done),
+        match heard_in(found) {
+            Heard::Answer(answer) => self.take_answer(depot, client, &answer),
+            Heard::Changes(bitmap) => self.notify(depot, client, bitmap),
+            Heard::Nothing => self.only(Answer::Done),
         }
     }
 }

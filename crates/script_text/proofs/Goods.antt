@@ -8,6 +8,7 @@ use Rattle.row_value.specs.declared.schema.Column.{Column}
 use Rattle.row_value.specs.declared.schema.Schema.{Schema}
 use Rattle.table_model.specs.declared.event.Event.{Event}
 use Rattle.table_model.specs.declared.event.Event.TheVariants as events
+use Rattle.table_model.specs.declared.event.NetEvent.TheVariants as nets
 use Rattle.script_text.specs.declared.fault.BadLine.{BadLine}
 use Rattle.script_text.specs.declared.verb.EditVerb.{EditVerb}
 use Rattle.script_text.specs.declared.verb.Verb.{Verb}
@@ -17,13 +18,14 @@ use Rattle.script_text.specs.Names.{Names, has_no_store, columns_of}
 use Rattle.script_text.specs.Places.{◌>>=◌, passed, or_else, table_number, names_of, new_store_at, new_gate_at, new_table_at, new_client_at, tables_at, new_name_at, scheme_at, chunk_at}
 use Rattle.script_text.specs.Reading.{made_store, made_table, declared_by, made_client, store_in, new_table_in, table_in, draft_in, create_in, drop_in, client_in, content_in, some_columns_in, write_in, client_row_in, show_in, gate_in, made_gate}
 use Rattle.script_text.specs.Reading.{sum_in, client_table_in, sync_in, pull_in, begin_cr_in, conflicts_in, end_cr_in, choice_in, resolve_in, rule_in, resolve_all_in}
+use Rattle.script_text.specs.Reading.{subscribe_in, unsubscribe_in, tick_in}
 use Rattle.script_text.specs.Reading.{deliver_in, store_show_in, history_in, chunks_in, node_in, hold_in, free_in, work_in, work_all_in, start_in, crash_in, link_in, change_in, edit_in}
 use Rattle.stab_base.specs.Row.{row_of}
 use Rattle.stab_base.specs.declared.node.Node.{Node}
 use Rattle.stab_base.specs.declared.node.Node.TheVariants as nodes
 use Rattle.script_text.specs.Grammar.{SpelledBy, SpellsNewTable, columns_passed, AreColumns, scheme_word, client_word, table_word, tables_word, node_word, gateway_word, IsClient, IsTable, IsNode, limit_of, verb_for}
 use Rattle.script_text.proofs.Steps.{ok_err, bind-ok, word_in-ok, end-ok}
-use Rattle.script_text.proofs.Numbers.{number_at-ok, number_to-ok}
+use Rattle.script_text.proofs.Numbers.{number_at-ok, number_to-ok, period_at-ok}
 use Rattle.script_text.proofs.Distinct.{new-distinct}
 use Rattle.script_text.proofs.ColumnLemmas.{some_columns-ok, same_count}
 use Rattle.script_text.proofs.PlaceLemmas.{client_at-ok, party_at-ok, table_at-ok, new_store_at-ok, new_store_at-within}
@@ -208,6 +210,37 @@ module _ (names : Names) (ws : List (List ℕ)) where
         let p = bind-ok (client_table_in names ws) (λ q. Ok (events.Drop (nodes.Client q.0) q.1)) e h in
         let q = client_table-ok p.0 p.1 in
         subst (λ (x : Event). SpelledBy names (codes "drop" ∷ ws) x) (event_told p.2) (ap (λ (t : List (List ℕ)). codes "drop" ∷ t) q.0, q.1, q.2)
+
+    pub subscribe-ok : subscribe_in names ws ≡ Ok e → SpelledBy names (codes "subscribe" ∷ ws) e
+    unfolding subscribe_in
+    subscribe-ok h =
+        let a = word_in-ok _ _ _ ws e h in
+        let b = word_in-ok _ _ _ a.1 e a.5 in
+        let c = word_in-ok _ _ _ b.1 e b.5 in
+        let d = word_in-ok _ _ _ c.1 e c.5 in
+        let r = end-ok 5 (events.Net (nets.Subscribe a.2 b.2 c.2 d.2)) d.1 e d.5 in
+        let p = client_at-ok names a.0 a.2 a.4 in
+        let q = table_at-ok names b.0 b.2 b.4 in
+        let u = period_at-ok c.0 c.2 c.4 in
+        let v = number_to-ok 4294967295 d.0 d.2 d.4 in
+        let is : ws ≡ client_word a.2 ∷ table_word b.2 ∷ decimal c.2 ∷ decimal d.2 ∷ [] =
+        cc (a.3, b.3, c.3, d.3, r.0, p.0, q.0, u.0, v.0)
+        in
+        subst (λ (x : Event). SpelledBy names (codes "subscribe" ∷ ws) x) r.1
+        (ap (λ (t : List (List ℕ)). codes "subscribe" ∷ t) is, p.1, q.1, u.1, u.2, omega (arith, v.1))
+
+    pub unsubscribe-ok : unsubscribe_in names ws ≡ Ok e → SpelledBy names (codes "unsubscribe" ∷ ws) e
+    unsubscribe-ok h =
+        let p = bind-ok (client_table_in names ws) (λ q. Ok (events.Net (nets.Unsubscribe q.0 q.1))) e h in
+        let q = client_table-ok p.0 p.1 in
+        subst (λ (x : Event). SpelledBy names (codes "unsubscribe" ∷ ws) x) (event_told p.2)
+        (ap (λ (t : List (List ℕ)). codes "unsubscribe" ∷ t) q.0, q.1, q.2)
+
+    pub tick-ok : tick_in ws ≡ Ok e → SpelledBy names (codes "tick" ∷ ws) e
+    tick-ok h =
+        let r = end-ok 1 (events.Net nets.Tick) ws e h in
+        subst (λ (x : Event). SpelledBy names (codes "tick" ∷ ws) x) r.1
+        (ap (λ (t : List (List ℕ)). codes "tick" ∷ t) r.0)
 
     pub sync-ok : sync_in names ws ≡ Ok e → SpelledBy names (codes "sync" ∷ ws) e
     sync-ok h =

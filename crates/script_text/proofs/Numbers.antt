@@ -1,15 +1,15 @@
 -- Decimal numbers without leading zeros, and the words of nodes and tables.
-use Rattle.std.proofs.Common.{◌≡◌, ℕ, ◌<◌, ◌≤◌, ◌^◌, Bool, true, false, ◌&&◌, eqb, ltb, leb, cond, List, [], ◌∷◌, length, Option, Some, None, Result, Ok, Err, refl, sym, ap, ◌∙◌}
+use Rattle.std.proofs.Common.{◌≡◌, ◌≢◌, ℕ, ◌<◌, ◌≤◌, ◌^◌, Bool, true, false, ◌&&◌, eqb, ltb, leb, cond, List, [], ◌∷◌, length, Option, Some, None, Result, Ok, Err, refl, sym, ap, ◌∙◌}
 use Rattle.std.proofs.Common.{subst, inl, inr, arith}
 use Rattle.std.specs.Fmt.{decimal}
 use Rattle.std.specs.Str.Parse.{digits_value, ParsesUnsigned}
-use Rattle.std.proofs.lemmas.Bool.{ltb-true, lt-ltb, leb-true, le-leb, cases_Bool, eqb-true, eq-eqb}
+use Rattle.std.proofs.lemmas.Bool.{ltb-true, lt-ltb, leb-true, le-leb, cases_Bool, eqb-true, eqb-false, ne_eqb, eq-eqb}
 use Rattle.std.proofs.lemmas.Result.{OkIff-at_ok, OkIff-at_err}
 use Rattle.std.proofs.lemmas.Str.Parse.{parse_digits}
 use Rattle.script_words.specs.declared.code.Code.{Code}
 use Rattle.script_words.specs.declared.code.Code.TheVariants.{NoName, NoNumber}
 use Rattle.script_words.specs.Words.{is_number, is_length}
-use Rattle.script_text.specs.Places.{small, node_at, at_most, limited_at, number_at, number_to}
+use Rattle.script_text.specs.Places.{small, node_at, at_most, limited_at, number_at, number_to, period_at}
 use Rattle.script_words.proofs.WordLemmas.{own, both, either}
 use Rattle.script_words.proofs.Numerals.{number-text, number-some, number-right, value-right, length-text, length-right}
 use Rattle.script_text.proofs.Steps.{ok_err, bind-ok}
@@ -134,3 +134,26 @@ number_to-ok most word n e =
 pub number_to-right : (most n : ℕ) → n ≤ most → most < 2 ^ 64 → number_to most (decimal n) ≡ Ok n
 unfolding number_to
 number_to-right most n few less = rw (number_at-right n (omega (arith, few, less)), le-leb n most few) refl
+
+-- a number of ticks, one or more
+
+some_ticks : (n m : ℕ) → n ≤ 4294967295 → cond (eqb n 0) (Err NoNumber) (Ok n) ≡ Ok m → (n ≡ m) × (1 ≤ m) × (m < 2 ^ 32)
+some_ticks n m below e =
+    let p = unless-ok (eqb n 0) (Ok n) NoNumber m e in
+    let same : n ≡ m = ok_same _ _ p.1 in
+    let some : n ≢ 0 = eqb-false n 0 p.0 in
+    (same, omega (arith, same), omega (arith, same, below))
+
+pub period_at-ok : (word : List ℕ) (n : ℕ) → period_at word ≡ Ok n → (word ≡ decimal n) × (1 ≤ n) × (n < 2 ^ 32)
+unfolding period_at
+period_at-ok word n e =
+    let p = bind-ok (number_to 4294967295 word) (λ number. cond (eqb number 0) (Err NoNumber) (Ok number)) n e in
+    let q = number_to-ok 4294967295 word p.0 p.1 in
+    let r = some_ticks p.0 n q.1 p.2 in
+    (q.0 ∙ ap decimal r.0, r.1, r.2)
+
+pub period_at-right : (n : ℕ) → 1 ≤ n → n < 2 ^ 32 → period_at (decimal n) ≡ Ok n
+unfolding period_at
+period_at-right n some less =
+    let read = number_to-right 4294967295 n (omega (arith, less)) (omega arith) in
+    rw (read, ne_eqb n 0 (λ same. omega (arith, same, some))) refl

@@ -11,14 +11,17 @@ use Rattle.script_text.specs.Verbs.{verb_of, name_of, is_unbuilt}
 use Rattle.script_text.specs.Names.{Names, has_no_store}
 use Rattle.script_text.specs.Reading.{write_in, create_in, drop_in, show_in, sum_in, sync_in, pull_in, deliver_in, store_show_in, history_in, chunks_in, hold_in, free_in, work_in, work_all_in, crash_in, start_in}
 use Rattle.script_text.specs.Reading.{begin_cr_in, conflicts_in, end_cr_in, resolve_in, resolve_all_in}
+use Rattle.script_text.specs.Reading.{subscribe_in, unsubscribe_in, tick_in}
 use Rattle.script_text.specs.Reading.{link_in, edit_in, unlimited, in_time, built_in, with_verb, event_in, found, words_in}
 use Rattle.script_text.specs.Grammar.{SpelledBy, VerbFault, WordsFault, limit_of, WordsLimit}
 use Rattle.script_text.proofs.Steps.{ok_err, bind-ok, bind-err}
 use Rattle.script_text.proofs.Numbers.{some_same, none_some}
 use Rattle.script_text.proofs.VerbWords.{verb-some, verb-none, verb-again}
 use Rattle.script_text.proofs.Goods.{Told, store-ok, gate-ok, table-ok, draft-ok, client-ok, write-ok, create-ok, drop-ok, show-ok, sum-ok, sync-ok, pull-ok, deliver-ok, store_show-ok, history-ok, chunks-ok}
+use Rattle.script_text.proofs.Goods.{subscribe-ok, unsubscribe-ok, tick-ok}
 use Rattle.script_text.proofs.Goods.{begin_cr-ok, conflicts-ok, end_cr-ok, resolve-ok, resolve_all-ok}
 use Rattle.script_text.proofs.Goods.{link-ok, edit-ok, hold-ok, free-ok, work-ok, work_all-ok, crash-ok, start-ok}
+use Rattle.script_text.proofs.Stops.{subscribe-err, unsubscribe-err, tick-err, subscribe-fault, unsubscribe-fault, tick-fault}
 use Rattle.script_text.proofs.Stops.{begin_cr-err, conflicts-err, end_cr-err, resolve-err, resolve_all-err}
 use Rattle.script_text.proofs.Stops.{begin_cr-fault, conflicts-fault, end_cr-fault, resolve-fault, resolve_all-fault}
 use Rattle.script_text.proofs.Stops.{store-err, gate-err, table-err, draft-err, client-err, write-err, create-err, drop-err, show-err, sum-err, sync-err, pull-err}
@@ -99,6 +102,8 @@ module _ (names : Names) (first : List ℕ) (ws : List (List ℕ)) where
   event-built verbs.Link told h = plain-built verbs.Link (link_in names ws) told refl (link-ok names ws) h
   event-built verbs.Create told h = plain-built verbs.Create (create_in names ws) told refl (create-ok names ws) h
   event-built verbs.Drop told h = plain-built verbs.Drop (drop_in names ws) told refl (drop-ok names ws) h
+  event-built verbs.Subscribe told h = plain-built verbs.Subscribe (subscribe_in names ws) told refl (subscribe-ok names ws) h
+  event-built verbs.Unsubscribe told h = plain-built verbs.Unsubscribe (unsubscribe_in names ws) told refl (unsubscribe-ok names ws) h
   event-built verbs.Show told h = plain-built verbs.Show (show_in names ws) told refl (show-ok names ws) h
   event-built verbs.Sum told h = plain-built verbs.Sum (sum_in names ws) told refl (sum-ok names ws) h
   event-built verbs.Sync told h = plain-built verbs.Sync (sync_in names ws) told refl (sync-ok names ws) h
@@ -118,6 +123,7 @@ module _ (names : Names) (first : List ℕ) (ws : List (List ℕ)) where
   event-built verbs.WorkAll told h = plain-built verbs.WorkAll (work_all_in names ws) told refl (work_all-ok names ws) h
   event-built verbs.Crash told h = plain-built verbs.Crash (crash_in names ws) told refl (crash-ok names ws) h
   event-built verbs.Start told h = plain-built verbs.Start (start_in names ws) told refl (start-ok names ws) h
+  event-built verbs.Tick told h = plain-built verbs.Tick (tick_in ws) told refl (tick-ok names ws) h
 
   event-found : (o : Option Verb) (told : Result Event ℕ) → verb_of first ≡ o → with_verb names first ws o ≡ Ok told → (verb : Verb) × (first ≡ name_of verb) × Told names verb ws told
   event-found None told is h = absurd (unknown (is_unbuilt first) told h)
@@ -138,6 +144,8 @@ module _ (names : Names) (first : List ℕ) (ws : List (List ℕ)) where
   fault-built verbs.Link f h = link-err names ws f (unlimited-err _ f h)
   fault-built verbs.Create f h = create-err names ws f (unlimited-err _ f h)
   fault-built verbs.Drop f h = drop-err names ws f (unlimited-err _ f h)
+  fault-built verbs.Subscribe f h = subscribe-err names ws f (unlimited-err _ f h)
+  fault-built verbs.Unsubscribe f h = unsubscribe-err names ws f (unlimited-err _ f h)
   fault-built verbs.Show f h = show-err names ws f (unlimited-err _ f h)
   fault-built verbs.Sum f h = sum-err names ws f (unlimited-err _ f h)
   fault-built verbs.Sync f h = sync-err names ws f (unlimited-err _ f h)
@@ -157,6 +165,7 @@ module _ (names : Names) (first : List ℕ) (ws : List (List ℕ)) where
   fault-built verbs.WorkAll f h = work_all-err names ws f (unlimited-err _ f h)
   fault-built verbs.Crash f h = crash-err names ws f (unlimited-err _ f h)
   fault-built verbs.Start f h = start-err names ws f (unlimited-err _ f h)
+  fault-built verbs.Tick f h = tick-err names ws f (unlimited-err _ f h)
 
   fault-found : (o : Option Verb) (f : BadLine) → verb_of first ≡ o → with_verb names first ws o ≡ Err f → WordsFault names (first ∷ ws) f
   fault-found None f is h = inr (verb-none first is, unread (is_unbuilt first) f h)
@@ -177,6 +186,8 @@ module _ (names : Names) (first : List ℕ) (ws : List (List ℕ)) where
   built-fault verbs.Link f h = rw (link-fault names ws f h) refl
   built-fault verbs.Create f h = rw (create-fault names ws f h) refl
   built-fault verbs.Drop f h = rw (drop-fault names ws f h) refl
+  built-fault verbs.Subscribe f h = rw (subscribe-fault names ws f h) refl
+  built-fault verbs.Unsubscribe f h = rw (unsubscribe-fault names ws f h) refl
   built-fault verbs.Show f h = rw (show-fault names ws f h) refl
   built-fault verbs.Sum f h = rw (sum-fault names ws f h) refl
   built-fault verbs.Sync f h = rw (sync-fault names ws f h) refl
@@ -196,6 +207,7 @@ module _ (names : Names) (first : List ℕ) (ws : List (List ℕ)) where
   built-fault verbs.WorkAll f h = rw (work_all-fault names ws f h) refl
   built-fault verbs.Crash f h = rw (crash-fault names ws f h) refl
   built-fault verbs.Start f h = rw (start-fault names ws f h) refl
+  built-fault verbs.Tick f h = rw (tick-fault names ws f h) refl
 
   found-fault : (o : Option Verb) (f : BadLine) → verb_of first ≡ o → WordsFault names (first ∷ ws) f → with_verb names first ws o ≡ Err f
   found-fault None f is h = elim h [

@@ -1,5 +1,5 @@
 -- Words that spell an event are read as it, and none of them is at fault.
-use Rattle.std.proofs.Common.{◌≡◌, ℕ, Bool, false, ltb, List, [], ◌∷◌, map, length, codes, cond, Option, Some, None, Result, Ok, Err, refl, sym, ap, ◌∙◌, arith}
+use Rattle.std.proofs.Common.{◌≡◌, ℕ, Bool, false, ltb, List, [], ◌∷◌, map, length, codes, cond, Option, Some, Result, Ok, Err, refl, sym, ap, ◌∙◌, arith}
 use Rattle.std.specs.Fmt.{decimal}
 use Rattle.std.proofs.lemmas.Bool.{le-ltb}
 use Rattle.conflicts.specs.declared.pair.Choice.{Choice}
@@ -7,6 +7,8 @@ use Rattle.conflicts.specs.declared.stored.Stored.{Stored}
 use Rattle.row_edits.specs.declared.change.Edit.{Edit}
 use Rattle.table_model.specs.declared.event.Event.{Event}
 use Rattle.table_model.specs.declared.event.Event.TheVariants as events
+use Rattle.table_model.specs.declared.event.NetEvent.{NetEvent}
+use Rattle.table_model.specs.declared.event.NetEvent.TheVariants as nets
 use Rattle.row_value.specs.declared.schema.Schema.{Schema}
 use Rattle.row_value.specs.declared.content.Content.{Content}
 use Rattle.script_words.specs.declared.code.Code.TheVariants.{NotDeclared, Late}
@@ -21,6 +23,7 @@ use Rattle.script_words.specs.Columns.{column_word}
 use Rattle.script_text.specs.Reading.{store_in, made_table, new_table_in, table_in, draft_in, create_in, drop_in, client_in, write_in, client_row_in, show_in, gate_in}
 use Rattle.script_text.specs.Reading.{begin_cr_in, conflicts_in, end_cr_in, resolve_in, resolve_all_in}
 use Rattle.script_text.specs.Reading.{sum_in, client_table_in, sync_in, pull_in, deliver_in, store_show_in, history_in, chunks_in}
+use Rattle.script_text.specs.Reading.{subscribe_in, unsubscribe_in, tick_in}
 use Rattle.script_text.specs.Reading.{node_in, hold_in, free_in, work_in, work_all_in, start_in, crash_in, link_in, edit_in}
 use Rattle.script_text.specs.Reading.{unlimited, in_time, built_in, event_in, words_in}
 use Rattle.stab_base.specs.Row.{row_of}
@@ -28,9 +31,10 @@ use Rattle.stab_base.specs.declared.node.Node.{Node}
 use Rattle.stab_base.specs.declared.node.Node.TheVariants as nodes
 use Rattle.script_text.specs.Grammar.{SpelledBy, SpellsStore, SpellsNewTable, SpellsTable, SpellsDraft, SpellsClient, SpellsCreate, SpellsDrop, SpellsWrite, SpellsShow, SpellsSum, SpellsSync, SpellsGate, gate_word, gateway_word}
 use Rattle.script_text.specs.Grammar.{SpellsPull, SpellsDeliver, SpellsStoreShow, SpellsHistory, SpellsChunks, SpellsHold, SpellsFree, SpellsWork, SpellsWorkAll, SpellsStart, SpellsCrash, client_word, store_word}
+use Rattle.script_text.specs.Grammar.{SpellsNet, SpellsSubscribe, SpellsUnsubscribe, SpellsTick}
 use Rattle.script_text.specs.Grammar.{scheme_word, SpellsBeginCr, SpellsConflicts, SpellsEndCr, SpellsResolve, SpellsResolveAll}
 use Rattle.script_text.specs.Grammar.{table_word, tables_word, node_word, IsClient, IsTable, IsNode, verb_for, SpellsEdited, SpellsLink}
-use Rattle.script_text.proofs.Numbers.{number_at-right, number_to-right}
+use Rattle.script_text.proofs.Numbers.{number_at-right, number_to-right, period_at-right}
 use Rattle.script_text.proofs.Distinct.{distinct-new}
 use Rattle.script_text.proofs.Steps.{word_in-right, end_in-right}
 use Rattle.script_text.proofs.ChoiceLemmas.{choice-right}
@@ -93,6 +97,43 @@ module _ (names : Names) where
       rw h.0 (event_in-right names verbs.Drop (client_word client ∷ table_word table ∷ []) (events.Drop (nodes.Client client) table) (ap unlimited read))
   drop-right ws (nodes.Store store) table h = absurd h
   drop-right ws (nodes.Gate gate) table h = absurd h
+
+  subscribe-right : (ws : List (List ℕ)) (client table period tolerance : ℕ)
+      → SpellsSubscribe names ws client table period tolerance
+      → words_in names ws ≡ Ok (Ok (Some (events.Net (nets.Subscribe client table period tolerance))))
+  unfolding subscribe_in
+  subscribe-right ws client table period tolerance h =
+      let words : List (List ℕ) = client_word client ∷ table_word table ∷ decimal period ∷ decimal tolerance ∷ [] in
+      let event : Event = events.Net (nets.Subscribe client table period tolerance) in
+      let read : subscribe_in names words ≡ Ok event =
+      (word_in-right 1 _ (client_word client) _ _ client (client_at-right names client h.1)
+      ∙ word_in-right 2 _ (table_word table) _ _ table (table_at-right names table h.2)
+      ∙ word_in-right 3 _ (decimal period) _ _ period (period_at-right period h.3 h.4)
+      ∙ word_in-right 4 _ (decimal tolerance) _ _ tolerance
+      (number_to-right 4294967295 tolerance (omega (arith, h.5)) (omega arith))
+      ∙ rw (end_in-right 5) refl)
+      in
+      rw h.0 (event_in-right names verbs.Subscribe words event (ap unlimited read))
+
+  unsubscribe-right : (ws : List (List ℕ)) (client table : ℕ) → SpellsUnsubscribe names ws client table
+      → words_in names ws ≡ Ok (Ok (Some (events.Net (nets.Unsubscribe client table))))
+  unsubscribe-right ws client table h =
+      let words : List (List ℕ) = client_word client ∷ table_word table ∷ [] in
+      let event : Event = events.Net (nets.Unsubscribe client table) in
+      let read : unsubscribe_in names words ≡ Ok event = rw (client_table-right client table h.1 h.2) refl in
+      rw h.0 (event_in-right names verbs.Unsubscribe words event (ap unlimited read))
+
+  tick-right : (ws : List (List ℕ)) → SpellsTick ws → words_in names ws ≡ Ok (Ok (Some (events.Net nets.Tick)))
+  tick-right ws h =
+      let read : tick_in [] ≡ Ok (events.Net nets.Tick) = rw (end_in-right 1) refl in
+      rw h (event_in-right names verbs.Tick [] (events.Net nets.Tick) (ap unlimited read))
+
+  net-right : (ws : List (List ℕ)) (it : NetEvent) → SpellsNet names ws it
+      → words_in names ws ≡ Ok (Ok (Some (events.Net it)))
+  net-right ws (nets.Subscribe client table period tolerance) h = subscribe-right ws client table period tolerance h
+  net-right ws (nets.Unsubscribe client table) h = unsubscribe-right ws client table h
+  net-right ws (nets.WriteSync client table period tolerance) h = absurd h
+  net-right ws nets.Tick h = tick-right ws h
 
   sync-right : (ws : List (List ℕ)) (client table : ℕ) → SpellsSync names ws client table → words_in names ws ≡ Ok (Ok (Some (events.Sync client table)))
   sync-right ws client table h =
@@ -318,7 +359,7 @@ module _ (names : Names) where
   spelled ws (events.Drop node table) h = drop-right ws node table h
   spelled ws (events.Save store table client terms) h = absurd h
   spelled ws (events.Ask client table) h = absurd h
-  spelled ws (events.Net it) h = absurd h
+  spelled ws (events.Net it) h = net-right ws it h
   spelled ws (events.Show client table row) h = show-right ws client table row h
   spelled ws (events.Sum client table row) h = sum-right ws client table row h
   spelled ws (events.Sync client table) h = sync-right ws client table h

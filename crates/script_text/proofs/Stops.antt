@@ -9,6 +9,7 @@ use Rattle.script_text.specs.Places.{table_at}
 use Rattle.script_text.specs.Reading.{store_in, gate_in, new_table_in, table_in, draft_in, create_in, drop_in, client_in, content_in, some_columns_in, write_in, client_row_in, show_in}
 use Rattle.script_text.specs.Reading.{begin_cr_in, conflicts_in, end_cr_in, choice_in, resolve_in, rule_in, resolve_all_in}
 use Rattle.script_text.specs.Reading.{sum_in, client_table_in, sync_in, pull_in, deliver_in, store_show_in, history_in, chunks_in}
+use Rattle.script_text.specs.Reading.{subscribe_in, unsubscribe_in, tick_in}
 use Rattle.script_text.specs.Reading.{node_in, hold_in, free_in, work_in, work_all_in, start_in, crash_in, link_in, change_in, edit_in}
 use Rattle.script_text.specs.Grammar.{FirstFault, table_places, places_of, more_of, change_fault, columns_named, ChoiceFault, AllFault}
 use Rattle.script_text.proofs.ChoiceLemmas.{choice-err, choice-fault}
@@ -109,6 +110,23 @@ module _ (names : Names) (ws : List (List ℕ)) (f : BadLine) where
 
   pub drop-err : drop_in names ws ≡ Err f → FirstFault 1 (places_of names verbs.Drop) (more_of verbs.Drop (columns_named names ws)) ws f
   drop-err h = client_table-err (bind-err (client_table_in names ws) _ f h)
+
+  pub subscribe-err : subscribe_in names ws ≡ Err f
+      → FirstFault 1 (places_of names verbs.Subscribe) (more_of verbs.Subscribe (columns_named names ws)) ws f
+  unfolding subscribe_in
+  subscribe-err h =
+      word_in-err _ _ _ (drop 1 (places_of names verbs.Subscribe)) (more_of verbs.Subscribe (columns_named names ws)) f ws h (λ va a xa ia oa ha.
+      word_in-err _ _ _ (drop 2 (places_of names verbs.Subscribe)) (more_of verbs.Subscribe (columns_named names ws)) f a ha (λ vb b xb ib ob hb.
+      word_in-err _ _ _ (drop 3 (places_of names verbs.Subscribe)) (more_of verbs.Subscribe (columns_named names ws)) f b hb (λ vc c xc ic oc hc.
+      word_in-err _ _ _ (drop 4 (places_of names verbs.Subscribe)) (more_of verbs.Subscribe (columns_named names ws)) f c hc (λ vd d xd id od hd.
+      end-err 5 _ d f hd))))
+
+  pub unsubscribe-err : unsubscribe_in names ws ≡ Err f
+      → FirstFault 1 (places_of names verbs.Unsubscribe) (more_of verbs.Unsubscribe (columns_named names ws)) ws f
+  unsubscribe-err h = client_table-err (bind-err (client_table_in names ws) _ f h)
+
+  pub tick-err : tick_in ws ≡ Err f → FirstFault 1 (places_of names verbs.Tick) (more_of verbs.Tick (columns_named names ws)) ws f
+  tick-err h = end-err 1 _ ws f h
 
   pub sync-err : sync_in names ws ≡ Err f → FirstFault 1 (places_of names verbs.Sync) (more_of verbs.Sync (columns_named names ws)) ws f
   sync-err h = client_table-err (bind-err (client_table_in names ws) _ f h)
@@ -282,6 +300,23 @@ module _ (names : Names) (ws : List (List ℕ)) (f : BadLine) where
 
   pub drop-fault : FirstFault 1 (places_of names verbs.Drop) (more_of verbs.Drop (columns_named names ws)) ws f → drop_in names ws ≡ Err f
   drop-fault h = rw (client_table-fault h) refl
+
+  pub subscribe-fault : FirstFault 1 (places_of names verbs.Subscribe) (more_of verbs.Subscribe (columns_named names ws)) ws f
+      → subscribe_in names ws ≡ Err f
+  unfolding subscribe_in
+  subscribe-fault h =
+      word_in-fault _ _ _ (drop 1 (places_of names verbs.Subscribe)) (more_of verbs.Subscribe (columns_named names ws)) f ws h (λ va a xa ia oa ha.
+      word_in-fault _ _ _ (drop 2 (places_of names verbs.Subscribe)) (more_of verbs.Subscribe (columns_named names ws)) f a ha (λ vb b xb ib ob hb.
+      word_in-fault _ _ _ (drop 3 (places_of names verbs.Subscribe)) (more_of verbs.Subscribe (columns_named names ws)) f b hb (λ vc c xc ic oc hc.
+      word_in-fault _ _ _ (drop 4 (places_of names verbs.Subscribe)) (more_of verbs.Subscribe (columns_named names ws)) f c hc (λ vd d xd id od hd.
+      end-fault 5 _ d f hd))))
+
+  pub unsubscribe-fault : FirstFault 1 (places_of names verbs.Unsubscribe) (more_of verbs.Unsubscribe (columns_named names ws)) ws f
+      → unsubscribe_in names ws ≡ Err f
+  unsubscribe-fault h = rw (client_table-fault h) refl
+
+  pub tick-fault : FirstFault 1 (places_of names verbs.Tick) (more_of verbs.Tick (columns_named names ws)) ws f → tick_in ws ≡ Err f
+  tick-fault h = end-fault 1 _ ws f h
 
   pub sync-fault : FirstFault 1 (places_of names verbs.Sync) (more_of verbs.Sync (columns_named names ws)) ws f → sync_in names ws ≡ Err f
   sync-fault h = rw (client_table-fault h) refl

@@ -44,6 +44,8 @@ verb-some word verb e =
     (picked verbs.Link verb word _
     (picked verbs.Create verb word _
     (picked verbs.Drop verb word _
+    (picked verbs.Subscribe verb word _
+    (picked verbs.Unsubscribe verb word _
     (picked verbs.Show verb word _
     (picked verbs.Sum verb word _
     (picked verbs.Sync verb word _
@@ -63,7 +65,8 @@ verb-some word verb e =
     (picked verbs.WorkAll verb word _
     (picked verbs.Crash verb word _
     (picked verbs.Start verb word _
-    (λ none. absurd cc)))))))))))))))))))))))))))))))
+    (picked verbs.Tick verb word _
+    (λ none. absurd cc))))))))))))))))))))))))))))))))))
     e
 
 pub verb-none : (word : List ℕ) → verb_of word ≡ None → (verb : Verb) → word ≢ name_of verb
@@ -81,25 +84,28 @@ verb-none word h verb =
     let h9 = skipped verbs.Link word _ h8.1 in
     let h10 = skipped verbs.Create word _ h9.1 in
     let h11 = skipped verbs.Drop word _ h10.1 in
-    let h12 = skipped verbs.Show word _ h11.1 in
-    let h13 = skipped verbs.Sum word _ h12.1 in
-    let h14 = skipped verbs.Sync word _ h13.1 in
-    let h15 = skipped verbs.Pull word _ h14.1 in
-    let h16 = skipped verbs.BeginCr word _ h15.1 in
-    let h17 = skipped verbs.Conflicts word _ h16.1 in
-    let h18 = skipped verbs.EndCr word _ h17.1 in
-    let h19 = skipped verbs.Resolve word _ h18.1 in
-    let h20 = skipped verbs.ResolveAll word _ h19.1 in
-    let h21 = skipped verbs.Deliver word _ h20.1 in
-    let h22 = skipped verbs.StoreShow word _ h21.1 in
-    let h23 = skipped verbs.History word _ h22.1 in
-    let h24 = skipped verbs.Chunks word _ h23.1 in
-    let h25 = skipped verbs.Hold word _ h24.1 in
-    let h26 = skipped verbs.Free word _ h25.1 in
-    let h27 = skipped verbs.Work word _ h26.1 in
-    let h28 = skipped verbs.WorkAll word _ h27.1 in
-    let h29 = skipped verbs.Crash word _ h28.1 in
-    let h30 = skipped verbs.Start word _ h29.1 in
+    let h12 = skipped verbs.Subscribe word _ h11.1 in
+    let h13 = skipped verbs.Unsubscribe word _ h12.1 in
+    let h14 = skipped verbs.Show word _ h13.1 in
+    let h15 = skipped verbs.Sum word _ h14.1 in
+    let h16 = skipped verbs.Sync word _ h15.1 in
+    let h17 = skipped verbs.Pull word _ h16.1 in
+    let h18 = skipped verbs.BeginCr word _ h17.1 in
+    let h19 = skipped verbs.Conflicts word _ h18.1 in
+    let h20 = skipped verbs.EndCr word _ h19.1 in
+    let h21 = skipped verbs.Resolve word _ h20.1 in
+    let h22 = skipped verbs.ResolveAll word _ h21.1 in
+    let h23 = skipped verbs.Deliver word _ h22.1 in
+    let h24 = skipped verbs.StoreShow word _ h23.1 in
+    let h25 = skipped verbs.History word _ h24.1 in
+    let h26 = skipped verbs.Chunks word _ h25.1 in
+    let h27 = skipped verbs.Hold word _ h26.1 in
+    let h28 = skipped verbs.Free word _ h27.1 in
+    let h29 = skipped verbs.Work word _ h28.1 in
+    let h30 = skipped verbs.WorkAll word _ h29.1 in
+    let h31 = skipped verbs.Crash word _ h30.1 in
+    let h32 = skipped verbs.Start word _ h31.1 in
+    let h33 = skipped verbs.Tick word _ h32.1 in
     elim verb as (λ (v : Verb). word ≢ name_of v) [
       | verbs.Store ↦ h0.0
       | verbs.Gate ↦ h1.0
@@ -115,25 +121,28 @@ verb-none word h verb =
       | verbs.Link ↦ h9.0
       | verbs.Create ↦ h10.0
       | verbs.Drop ↦ h11.0
-      | verbs.Show ↦ h12.0
-      | verbs.Sum ↦ h13.0
-      | verbs.Sync ↦ h14.0
-      | verbs.Pull ↦ h15.0
-      | verbs.BeginCr ↦ h16.0
-      | verbs.Conflicts ↦ h17.0
-      | verbs.EndCr ↦ h18.0
-      | verbs.Resolve ↦ h19.0
-      | verbs.ResolveAll ↦ h20.0
-      | verbs.Deliver ↦ h21.0
-      | verbs.StoreShow ↦ h22.0
-      | verbs.History ↦ h23.0
-      | verbs.Chunks ↦ h24.0
-      | verbs.Hold ↦ h25.0
-      | verbs.Free ↦ h26.0
-      | verbs.Work ↦ h27.0
-      | verbs.WorkAll ↦ h28.0
-      | verbs.Crash ↦ h29.0
-      | verbs.Start ↦ h30.0
+      | verbs.Subscribe ↦ h12.0
+      | verbs.Unsubscribe ↦ h13.0
+      | verbs.Show ↦ h14.0
+      | verbs.Sum ↦ h15.0
+      | verbs.Sync ↦ h16.0
+      | verbs.Pull ↦ h17.0
+      | verbs.BeginCr ↦ h18.0
+      | verbs.Conflicts ↦ h19.0
+      | verbs.EndCr ↦ h20.0
+      | verbs.Resolve ↦ h21.0
+      | verbs.ResolveAll ↦ h22.0
+      | verbs.Deliver ↦ h23.0
+      | verbs.StoreShow ↦ h24.0
+      | verbs.History ↦ h25.0
+      | verbs.Chunks ↦ h26.0
+      | verbs.Hold ↦ h27.0
+      | verbs.Free ↦ h28.0
+      | verbs.Work ↦ h29.0
+      | verbs.WorkAll ↦ h30.0
+      | verbs.Crash ↦ h31.0
+      | verbs.Start ↦ h32.0
+      | verbs.Tick ↦ h33.0
     ]
 
 pub verb-again : (verb : Verb) → verb_of (name_of verb) ≡ Some verb
@@ -150,6 +159,8 @@ verb-again (verbs.Edit changes.Delete) = refl
 verb-again verbs.Link = refl
 verb-again verbs.Create = refl
 verb-again verbs.Drop = refl
+verb-again verbs.Subscribe = refl
+verb-again verbs.Unsubscribe = refl
 verb-again verbs.Show = refl
 verb-again verbs.Sum = refl
 verb-again verbs.Sync = refl
@@ -169,3 +180,4 @@ verb-again verbs.Work = refl
 verb-again verbs.WorkAll = refl
 verb-again verbs.Crash = refl
 verb-again verbs.Start = refl
+verb-again verbs.Tick = refl

@@ -29,6 +29,8 @@ use Rattle.script_words.specs.Columns.{column_word}
 use Rattle.script_words.specs.Values.{SpellsCell, SpellsObject, bytes_at}
 use Rattle.table_model.specs.declared.event.Event.{Event}
 use Rattle.table_model.specs.declared.event.Event.TheVariants as events
+use Rattle.table_model.specs.declared.event.NetEvent.{NetEvent}
+use Rattle.table_model.specs.declared.event.NetEvent.TheVariants as nets
 use Rattle.script_words.specs.declared.code.Code.{Code}
 use Rattle.script_words.specs.declared.code.Code.TheVariants.{NoVerb, Missing, Surplus, NotDeclared, NotUtf8, Late}
 use Rattle.script_words.specs.declared.code.Code.TheVariants.{Unbuilt}
@@ -51,6 +53,7 @@ use Rattle.script_text.specs.Places.{new_gate_at, gate_number}
 use Rattle.script_text.specs.Places.{new_name_at, scheme_at, chunk_at, names_of, new_column_at, with_column, row_at}
 use Rattle.script_text.specs.Places.{value_behind, with_value, number_at, party_at, calls_at, passed, or_else}
 use Rattle.script_text.specs.Places.{store_number, table_number, direction_at, column_at, place_at}
+use Rattle.script_text.specs.Places.{ticks_at, period_at}
 use Rattle.script_text.specs.Places.{next_change, with_change, way_at, rule_at}
 use Rattle.script_text.specs.Places.{client_number, tables_passed, parts_at}
 pub use Rattle.script_text.specs.Names.{Names, no_names, with_event, has_store, has_gate, has_table, has_name}
@@ -255,6 +258,27 @@ SpellsCreate = SpellsByClient (codes "create")
 abbrev pub SpellsDrop : Names → List (List ℕ) → Node → ℕ → Type 0
 SpellsDrop = SpellsByClient (codes "drop")
 
+-- `subscribe C T PERIOD TOLERANCE`
+abbrev pub SpellsSubscribe : Names → List (List ℕ) → ℕ → ℕ → ℕ → ℕ → Type 0
+SpellsSubscribe names words client table period tolerance =
+    (words ≡ codes "subscribe" ∷ client_word client ∷ table_word table ∷ decimal period ∷ decimal tolerance ∷ [])
+    × IsClient names client × IsTable names table × (1 ≤ period) × (period < 2 ^ 32) × (tolerance < 2 ^ 32)
+
+-- `unsubscribe C T`
+abbrev pub SpellsUnsubscribe : Names → List (List ℕ) → ℕ → ℕ → Type 0
+SpellsUnsubscribe = SpellsClientTable (codes "unsubscribe")
+
+-- `tick`
+abbrev pub SpellsTick : List (List ℕ) → Type 0
+SpellsTick words = words ≡ codes "tick" ∷ []
+
+abbrev pub SpellsNet : Names → List (List ℕ) → NetEvent → Type 0
+SpellsNet names words (nets.Subscribe client table period tolerance) =
+    SpellsSubscribe names words client table period tolerance
+SpellsNet names words (nets.Unsubscribe client table) = SpellsUnsubscribe names words client table
+SpellsNet names words (nets.WriteSync client table period tolerance) = ⊥
+SpellsNet names words nets.Tick = SpellsTick words
+
 -- `sync C T`
 abbrev pub SpellsSync : Names → List (List ℕ) → ℕ → ℕ → Type 0
 SpellsSync = SpellsClientTable (codes "sync")
@@ -381,7 +405,7 @@ SpelledBy names words (events.Create node table) = SpellsCreate names words node
 SpelledBy names words (events.Drop node table) = SpellsDrop names words node table
 SpelledBy names words (events.Save store table client terms) = ⊥
 SpelledBy names words (events.Ask client table) = ⊥
-SpelledBy names words (events.Net it) = ⊥
+SpelledBy names words (events.Net it) = SpellsNet names words it
 SpelledBy names words (events.Show client table row) = SpellsShow names words client table row
 SpelledBy names words (events.Sum client table row) = SpellsSum names words client table row
 SpelledBy names words (events.Sync client table) = SpellsSync names words client table
@@ -498,6 +522,11 @@ places_of names verbs.Link =
 places_of names verbs.Create =
     (λ word. fault_of (client_at names word)) ∷ (λ word. fault_of (table_at names word)) ∷ []
 places_of names verbs.Drop = (λ word. fault_of (client_at names word)) ∷ (λ word. fault_of (table_at names word)) ∷ []
+places_of names verbs.Subscribe =
+    (λ word. fault_of (client_at names word)) ∷ (λ word. fault_of (table_at names word))
+    ∷ (λ word. fault_of (period_at word)) ∷ (λ word. fault_of (ticks_at word)) ∷ []
+places_of names verbs.Unsubscribe =
+    (λ word. fault_of (client_at names word)) ∷ (λ word. fault_of (table_at names word)) ∷ []
 places_of names verbs.Show =
     (λ word. fault_of (client_at names word)) ∷ (λ word. fault_of (table_at names word))
     ∷ (λ word. fault_of (row_at word)) ∷ []
@@ -529,6 +558,7 @@ places_of names verbs.Crash =
     (λ word. fault_of (party_at names word)) ∷ (λ word. fault_of (calls_at word))
     ∷ (λ word. fault_of (number_at word)) ∷ []
 places_of names verbs.Start = (λ word. fault_of (party_at names word)) ∷ []
+places_of names verbs.Tick = []
 
 -- the places of a patch behind its row
 abbrev pub patch_places : List Column → List (List ℕ → Option Code)
@@ -566,6 +596,8 @@ more_of (verbs.Edit verb) columns = change_fault verb columns
 more_of verbs.Link columns = NoMore
 more_of verbs.Create columns = NoMore
 more_of verbs.Drop columns = NoMore
+more_of verbs.Subscribe columns = NoMore
+more_of verbs.Unsubscribe columns = NoMore
 more_of verbs.Show columns = NoMore
 more_of verbs.Sum columns = NoMore
 more_of verbs.Sync columns = NoMore
@@ -585,6 +617,7 @@ more_of verbs.Work columns = NoMore
 more_of verbs.WorkAll columns = NoMore
 more_of verbs.Crash columns = NoMore
 more_of verbs.Start columns = NoMore
+more_of verbs.Tick columns = NoMore
 
 -- a fault of the verb at its place: a table that is declared without a Store, and a declaration behind an event
 abbrev pub verb_fault : Names → Verb → Option Code
@@ -600,6 +633,8 @@ verb_fault names (verbs.Edit verb) = None
 verb_fault names verbs.Link = None
 verb_fault names verbs.Create = None
 verb_fault names verbs.Drop = None
+verb_fault names verbs.Subscribe = None
+verb_fault names verbs.Unsubscribe = None
 verb_fault names verbs.Show = None
 verb_fault names verbs.Sum = None
 verb_fault names verbs.Sync = None
@@ -619,6 +654,7 @@ verb_fault names verbs.Work = None
 verb_fault names verbs.WorkAll = None
 verb_fault names verbs.Crash = None
 verb_fault names verbs.Start = None
+verb_fault names verbs.Tick = None
 
 abbrev pub columns_at : Names → Result ℕ Code → List Column
 columns_at names (Ok table) = columns_of names table

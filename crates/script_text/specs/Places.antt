@@ -271,6 +271,14 @@ number_to most word = number_at word >>= λ number. if nat_le number most then O
 abbrev pub calls_at : List ℕ → Result ℕ Code
 calls_at word = number_to 4 word
 
+-- how many ticks, below 2 ^ 32
+abbrev pub ticks_at : List ℕ → Result ℕ Code
+ticks_at word = number_to 4294967295 word
+
+-- how many ticks, one or more
+unfoldable pub period_at : List ℕ → Result ℕ Code
+period_at word = ticks_at word >>= λ number. if number == 0 then Err NoNumber else Ok number
+
 -- how a conflict is resolved
 unfoldable pub way_at : List ℕ → Result Way Code
 way_at word =

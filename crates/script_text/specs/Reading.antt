@@ -16,6 +16,7 @@ use Rattle.row_edits.specs.declared.change.Edit.{Edit}
 use Rattle.row_edits.specs.declared.change.Edit.TheVariants as edits
 use Rattle.table_model.specs.declared.event.Event.{Event}
 use Rattle.table_model.specs.declared.event.Event.TheVariants as events
+use Rattle.table_model.specs.declared.event.NetEvent.TheVariants as nets
 use Rattle.script_words.specs.declared.code.Code.{Code}
 use Rattle.script_words.specs.declared.code.Code.TheVariants.{NoVerb, Missing, Surplus, NotDeclared, NotUtf8, Late}
 use Rattle.script_words.specs.declared.code.Code.TheVariants.{Unbuilt}
@@ -41,6 +42,7 @@ use Rattle.script_text.specs.Places.{new_client_at, gate_at}
 use Rattle.script_text.specs.Places.{tables_at, new_name_at, scheme_at, chunk_at, new_column_at, with_column, row_at}
 use Rattle.script_text.specs.Places.{Values, value_behind, with_value, number_at, party_at, calls_at}
 use Rattle.script_text.specs.Places.{direction_at, column_at, place_at, next_change, with_change, way_at, rule_at}
+use Rattle.script_text.specs.Places.{ticks_at, period_at}
 use Rattle.script_words.specs.Values.{bytes_at}
 
 -- the next word and the words behind it
@@ -168,6 +170,20 @@ create_in names words = client_table_in names words >>= λ p. Ok (events.Create 
 
 abbrev pub drop_in : Names → List (List ℕ) → Result Event BadLine
 drop_in names words = client_table_in names words >>= λ p. Ok (events.Drop (nodes.Client p.0) p.1)
+
+unfoldable pub subscribe_in : Names → List (List ℕ) → Result Event BadLine
+subscribe_in names words =
+    word_in 1 (client_at names) words (λ client a.
+    word_in 2 (table_at names) a (λ table b.
+    word_in 3 period_at b (λ period c.
+    word_in 4 ticks_at c (λ tolerance d.
+    end_in 5 d >>= λ done. Ok (events.Net (nets.Subscribe client table period tolerance))))))
+
+abbrev pub unsubscribe_in : Names → List (List ℕ) → Result Event BadLine
+unsubscribe_in names words = client_table_in names words >>= λ p. Ok (events.Net (nets.Unsubscribe p.0 p.1))
+
+abbrev pub tick_in : List (List ℕ) → Result Event BadLine
+tick_in words = end_in 1 words >>= λ done. Ok (events.Net nets.Tick)
 
 abbrev pub sync_in : Names → List (List ℕ) → Result Event BadLine
 sync_in names words = client_table_in names words >>= λ p. Ok (events.Sync p.0 p.1)
@@ -371,6 +387,8 @@ built_in names (verbs.Edit verb) words = unlimited (edit_in names verb words)
 built_in names verbs.Link words = unlimited (link_in names words)
 built_in names verbs.Create words = unlimited (create_in names words)
 built_in names verbs.Drop words = unlimited (drop_in names words)
+built_in names verbs.Subscribe words = unlimited (subscribe_in names words)
+built_in names verbs.Unsubscribe words = unlimited (unsubscribe_in names words)
 built_in names verbs.Show words = unlimited (show_in names words)
 built_in names verbs.Sum words = unlimited (sum_in names words)
 built_in names verbs.Sync words = unlimited (sync_in names words)
@@ -390,6 +408,7 @@ built_in names verbs.Work words = unlimited (work_in names words)
 built_in names verbs.WorkAll words = unlimited (work_all_in names words)
 built_in names verbs.Crash words = unlimited (crash_in names words)
 built_in names verbs.Start words = unlimited (start_in names words)
+built_in names verbs.Tick words = unlimited (tick_in words)
 
 abbrev pub with_verb : Names → List ℕ → List (List ℕ) → Option Verb → Result (Result Event ℕ) BadLine
 with_verb names first words None = if is_unbuilt first then Err (bad Unbuilt 0) else Err (bad NoVerb 0)

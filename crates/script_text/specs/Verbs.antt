@@ -25,6 +25,8 @@ name_of (verbs.Edit verb) = edit_name verb
 name_of verbs.Link = codes "link"
 name_of verbs.Create = codes "create"
 name_of verbs.Drop = codes "drop"
+name_of verbs.Subscribe = codes "subscribe"
+name_of verbs.Unsubscribe = codes "unsubscribe"
 name_of verbs.Show = codes "show"
 name_of verbs.Sum = codes "sum"
 name_of verbs.Sync = codes "sync"
@@ -44,6 +46,7 @@ name_of verbs.Work = codes "work"
 name_of verbs.WorkAll = codes "do"
 name_of verbs.Crash = codes "crash"
 name_of verbs.Start = codes "start"
+name_of verbs.Tick = codes "tick"
 
 unfoldable pub verb_of : List ℕ → Option Verb
 verb_of word =
@@ -59,6 +62,8 @@ verb_of word =
     else if bytes_eq word (codes "link") then Some verbs.Link
     else if bytes_eq word (codes "create") then Some verbs.Create
     else if bytes_eq word (codes "drop") then Some verbs.Drop
+    else if bytes_eq word (codes "subscribe") then Some verbs.Subscribe
+    else if bytes_eq word (codes "unsubscribe") then Some verbs.Unsubscribe
     else if bytes_eq word (codes "show") then Some verbs.Show
     else if bytes_eq word (codes "sum") then Some verbs.Sum
     else if bytes_eq word (codes "sync") then Some verbs.Sync
@@ -78,12 +83,13 @@ verb_of word =
     else if bytes_eq word (codes "do") then Some verbs.WorkAll
     else if bytes_eq word (codes "crash") then Some verbs.Crash
     else if bytes_eq word (codes "start") then Some verbs.Start
+    else if bytes_eq word (codes "tick") then Some verbs.Tick
     else None
 
 -- lines that set things up that aren't built
 unfoldable pub is_setting_verb : List ℕ → Bool
 is_setting_verb word =
-    is_among word (codes "subscribe" ∷ codes "unsubscribe" ∷ codes "writesync" ∷ [])
+    is_among word (codes "writesync" ∷ [])
 
 -- lines of rows that aren't built
 unfoldable pub is_row_verb : List ℕ → Bool
@@ -92,7 +98,7 @@ is_row_verb word = is_among word (codes "select" ∷ [])
 -- lines of nodes that aren't built
 unfoldable pub is_node_verb : List ℕ → Bool
 is_node_verb word =
-    is_among word (codes "tick" ∷ codes "settle" ∷ [])
+    is_among word (codes "settle" ∷ [])
 
 unfoldable pub is_unbuilt : List ℕ → Bool
 is_unbuilt word = is_setting_verb word || is_row_verb word || is_node_verb word

@@ -34,6 +34,9 @@ pub(crate) const MOST_COLUMNS: usize = 32;
 /// The last place of an object that a line may name.
 pub(crate) const MOST_PLACE: u32 = 4_294_967_295;
 
+/// How many ticks a period or a tolerance may have.
+pub(crate) const MOST_TICKS: u32 = 4_294_967_295;
+
 /// Of how many calls a line may say that they pass in a crash.
 pub(crate) const MOST_CALLS: u32 = 4;
 

@@ -15,6 +15,7 @@ mod nodes;
 mod parse;
 mod places;
 mod resolving;
+mod subscribing;
 mod verb;
 
 pub use declared::Declared;
@@ -27,6 +28,8 @@ pub use transcript_text::{ESCAPED, line_text, one_form, one_transcript, stop_apa
 mod conflict_tests;
 #[cfg(test)]
 mod edit_tests;
+#[cfg(test)]
+mod subscribing_tests;
 #[cfg(test)]
 mod table_tests;
 #[cfg(test)]

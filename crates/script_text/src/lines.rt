@@ -23,6 +23,7 @@ use crate::places::{
     new_table_at, number_at, row_at, scheme_at, table_at, tables_at,
 };
 use crate::resolving::{resolve_all_line, resolve_line};
+use crate::subscribing::{subscribe_line, tick_line, unsubscribe_line};
 use crate::verb::{Verb, is_unbuilt, verb_of};
 use row_value::{Bytes, RowId, Schema};
 use script_words::{Code, ValueFault};
@@ -31,7 +32,7 @@ use std::alloc::Global;
 use table_model::{Event, Tables};
 
 #[tactic(auto, unfolding(crate::specs::Reading::client_table_in, crate::specs::Reading::word_in))]
-fn client_table(names: &Declared, words: &[&str]) -> Result<(u32, u32), BadLine>
+pub(crate) fn client_table(names: &Declared, words: &[&str]) -> Result<(u32, u32), BadLine>
     ensures { result ≡ client_table_in names.now (texts words.now) }
 {
     let (word, rest) = next_word(words, 1)?;
@@ -325,6 +326,8 @@ fn built_line(
         Verb::Link => Ok(link_line(names, words)?),
         Verb::Create => Ok(create_line(names, words)?),
         Verb::Drop => Ok(drop_line(names, words)?),
+        Verb::Subscribe => Ok(subscribe_line(names, words)?),
+        Verb::Unsubscribe => Ok(unsubscribe_line(names, words)?),
         Verb::Show => Ok(show_line(names, words)?),
         Verb::Sum => Ok(sum_line(names, words)?),
         Verb::Sync => Ok(sync_line(names, words)?),
@@ -344,6 +347,7 @@ fn built_line(
         Verb::WorkAll => Ok(work_all_line(names, words)?),
         Verb::Crash => Ok(crash_line(names, words)?),
         Verb::Start => Ok(start_line(names, words)?),
+        Verb::Tick => Ok(tick_line(words)?),
         Verb::Table | Verb::Draft if names.has_no_store() => Err(bad(Code::NotDeclared, 0).into()),
         _ if names.has_started() => Err(bad(Code::Late, 0).into()),
         Verb::Store => store_line(names, words),

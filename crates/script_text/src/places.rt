@@ -7,11 +7,11 @@ ghost use Rattle.script_text.specs.Places.{table_at, new_store_at, new_gate_at, 
 ghost use Rattle.script_text.specs.Places.{gate_at, own_gate_at, named_gate_at, tables_in, tables_at, is_comma, seen};
 ghost use Rattle.script_text.specs.Places.{new_name_at, scheme_at, chunk_at, row_at};
 ghost use Rattle.script_text.specs.Places.{number_at, number_to, store_at, begins_with, party_at};
-ghost use Rattle.script_text.specs.Places.{direction_at, column_at};
+ghost use Rattle.script_text.specs.Places.{direction_at, column_at, ticks_at, period_at};
 ghost use Rattle.script_text.specs.Names.{columns_of};
 
 use crate::declared::{Declared, put_name};
-use crate::fault::{MOST_CLIENTS, MOST_GATES, MOST_STORES, MOST_TABLES};
+use crate::fault::{MOST_CLIENTS, MOST_GATES, MOST_STORES, MOST_TABLES, MOST_TICKS};
 use row_value::{RowId, Scheme, Sequence};
 use script_words::{Code, ValueFault, is_length, is_name, is_number};
 use stab_base::Node;
@@ -312,6 +312,22 @@ pub(crate) fn number_to(most: u32, word: &str) -> Result<u32, Code>
         Ok(number as u32)
     } else {
         Err(Code::NoNumber)
+    }
+}
+
+pub(crate) fn ticks_at(word: &str) -> Result<u32, Code>
+    ensures { result ≡ ticks_at word.now }
+{
+    number_to(MOST_TICKS, word)
+}
+
+#[tactic(auto, unfolding(crate::specs::Places::period_at))]
+pub(crate) fn period_at(word: &str) -> Result<u32, Code>
+    ensures { result ≡ period_at word.now }
+{
+    match ticks_at(word)? {
+        0 => Err(Code::NoNumber),
+        period => Ok(period),
     }
 }
 

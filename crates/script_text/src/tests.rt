@@ -83,7 +83,7 @@ const AT_THE_START: [(&str, u32, usize); 68] = [
     ("gate G01", 5, 1),
     ("gate S1", 5, 1),
     ("draft T1 notes causal 64 n:int", 8, 0),
-    ("subscribe C1 T1 1 0", 12, 0),
+    ("writesync C1 T1 1 0", 12, 0),
     ("resolve_all C1 T1 mine", 8, 1),
     ("settle", 12, 0),
     ("  store   S1  ", 0, 0),
@@ -500,7 +500,7 @@ const OF_NODES: [(&str, u32, usize); 64] = [
     ("crash x 5", 5, 1),
     ("crash S1 x", 4, 2),
     ("Hold S1", 1, 0),
-    ("tick", 12, 0),
+    ("tick", 0, 0),
     ("holds S1", 1, 0),
 ];
 

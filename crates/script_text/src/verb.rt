@@ -22,6 +22,8 @@ pub(crate) enum Verb {
     Link,
     Create,
     Drop,
+    Subscribe,
+    Unsubscribe,
     Show,
     Sum,
     Sync,
@@ -41,6 +43,7 @@ pub(crate) enum Verb {
     WorkAll,
     Crash,
     Start,
+    Tick,
 }
 
 #[tactic(auto, unfolding(crate::specs::Verbs::verb_of))]
@@ -60,6 +63,8 @@ pub(crate) fn verb_of(word: &str) -> Option<Verb>
         "link" => Some(Verb::Link),
         "create" => Some(Verb::Create),
         "drop" => Some(Verb::Drop),
+        "subscribe" => Some(Verb::Subscribe),
+        "unsubscribe" => Some(Verb::Unsubscribe),
         "show" => Some(Verb::Show),
         "sum" => Some(Verb::Sum),
         "sync" => Some(Verb::Sync),
@@ -79,6 +84,7 @@ pub(crate) fn verb_of(word: &str) -> Option<Verb>
         "do" => Some(Verb::WorkAll),
         "crash" => Some(Verb::Crash),
         "start" => Some(Verb::Start),
+        "tick" => Some(Verb::Tick),
         _ => None,
     }
 }
@@ -87,7 +93,7 @@ pub(crate) fn verb_of(word: &str) -> Option<Verb>
 fn is_setting_verb(word: &str) -> bool
     ensures { result ≡ is_setting_verb word.now }
 {
-    matches!(word, "subscribe" | "unsubscribe" | "writesync")
+    matches!(word, "writesync")
 }
 
 #[tactic(auto, unfolding(crate::specs::Verbs::is_row_verb))]
@@ -101,7 +107,7 @@ fn is_row_verb(word: &str) -> bool
 fn is_node_verb(word: &str) -> bool
     ensures { result ≡ is_node_verb word.now }
 {
-    matches!(word, "tick" | "settle")
+    matches!(word, "settle")
 }
 
 /// Whether a word is the first of a line that isn't built yet.

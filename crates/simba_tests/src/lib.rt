@@ -26,8 +26,12 @@ mod runs;
 #[cfg(test)]
 mod stops;
 #[cfg(test)]
+mod subscriptions;
+#[cfg(test)]
 mod tables;
 #[cfg(test)]
 mod tests;
+#[cfg(test)]
+mod timers;
 #[cfg(test)]
 mod values;

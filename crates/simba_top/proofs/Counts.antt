@@ -37,7 +37,7 @@ use Rattle.simba_top.proofs.Behind.{net_from-push}
 
 -- so many events has the run of whole messages that a run is
 abbrev most : ℕ
-most = 3 * MOST_LINES
+most = 67 * MOST_LINES
 
 module _ (run : List Happening) (few : length run ≤ most) (plans : ℕ) (begun : plans ≤ most * most + most * 4) where
   writes_few : begun_in run ≤ most * most
@@ -93,7 +93,8 @@ module _ (run : List Happening) (few : length run ≤ most) (plans : ℕ) (begun
 
 -- ---- so with gateways
 
--- the run of whole messages has at most three events for each
+-- the run of whole messages has at most 67 events for each: a message that tells a client of changes makes it ask for
+-- the next change of up to 64 tables
 module _ (run : List Happening) (first : AreDeclaredFirst run) (built : AreBuilt run) where
   abbrev wired : IsRunOfWires run
   wired = run_of_wires run first built
@@ -101,47 +102,47 @@ module _ (run : List Happening) (first : AreDeclaredFirst run) (built : AreBuilt
   abbrev whole : IsRunOf wired.whole
   whole = whole_run wired.whole wired.built
 
-  whole_few : length whole.whole ≤ 3 * length run
+  whole_few : length whole.whole ≤ 67 * length run
   whole_few = let a = whole_is_shorter wired.whole whole in let b = wired.few in omega (arith, a, b)
 
   whole_world : world_from world.start whole.whole ≡ (net_from start run).wire.world
   whole_world = sym (ap (λ (v : Wire). v.world) wired.wire ∙ whole.world)
 
   -- how many rows a client has in conflict in a table
-  pairs_at : (c table : ℕ) → length (client_pairs (client_at (net_from start run).wire.world c) table) ≤ 3 * length run
+  pairs_at : (c table : ℕ) → length (client_pairs (client_at (net_from start run).wire.world c) table) ≤ 67 * length run
   pairs_at c table =
       let few = pairs_few whole.whole c table in
       let same = ap (λ (w : World). length (client_pairs (client_at w c) table)) whole_world in
       let short = whole_few in
       omega (arith, few, same, short)
 
-  event_begins : (event : Event) → may_begin (net_from start run) event ≤ 3 * length run + 3
+  event_begins : (event : Event) → may_begin (net_from start run) event ≤ 67 * length run + 67
   event_begins (events.ResolveAll c table by) = let few = pairs_at c table in omega (arith, few)
   event_begins (events.Deliver packet) = omega arith
   event_begins other = omega arith
 
 -- with what was begun before
 all_begin : (before more : List Happening) → AreDeclaredFirst (before ++ more) → AreBuilt (before ++ more)
-    → plans_from (net_from start before) more ≤ length more * (3 * (length before + length more) + 3)
+    → plans_from (net_from start before) more ≤ length more * (67 * (length before + length more) + 67)
 all_begin before [] first built = omega arith
 all_begin before (h ∷ more) first built =
     let here = event_begins before (first_front before (h ∷ more) first) (built_front before (h ∷ more) built) h.event in
     let same : before ++ h ∷ more ≡ (before ++ h ∷ []) ++ more = sym (append_assoc before (h ∷ []) more) in
     let rest = all_begin (before ++ h ∷ []) more (subst AreDeclaredFirst same first) (subst AreBuilt same built) in
-    let later = subst (λ (n : Net). plans_from n more ≤ length more * (3 * (length (before ++ h ∷ []) + length more) + 3)) (net_from-push h start before) rest in
+    let later = subst (λ (n : Net). plans_from n more ≤ length more * (67 * (length (before ++ h ∷ []) + length more) + 67)) (net_from-push h start before) rest in
     let longer = length-append before (h ∷ []) in
     bound (length before) (length more) _ _ here
-    (subst (λ (n : ℕ). plans_from (net_step (net_from start before) h.event h.lucks).net more ≤ length more * (3 * (n + length more) + 3)) longer later)
+    (subst (λ (n : ℕ). plans_from (net_step (net_from start before) h.event h.lucks).net more ≤ length more * (67 * (n + length more) + 67)) longer later)
   where
-    bound : (b m x y : ℕ) → x ≤ 3 * b + 3 → y ≤ m * (3 * (b + 1 + m) + 3) → x + y ≤ suc m * (3 * (b + suc m) + 3)
+    bound : (b m x y : ℕ) → x ≤ 67 * b + 67 → y ≤ m * (67 * (b + 1 + m) + 67) → x + y ≤ suc m * (67 * (b + suc m) + 67)
     bound b m x y p q = omega (arith, p, q)
 
 module _ (run : List Happening) (first : AreDeclaredFirst run) (built : AreBuilt run) (few : length run ≤ MOST_LINES) where
   plans_few : plans_from start run ≤ most * most + most * 4
   plans_few =
       let begun = all_begin [] run first built in
-      let more : 3 * length run + 3 ≤ most + 3 = omega (arith, few) in
-      let times = mul-le (length run) (3 * length run + 3) MOST_LINES (most + 3) few more in
+      let more : 67 * length run + 67 ≤ most + 67 = omega (arith, few) in
+      let times = mul-le (length run) (67 * length run + 67) MOST_LINES (most + 67) few more in
       omega (arith, begun, times)
 
   wire_left : (event : Event) → wires.Spends (plans_from start run) (net_from start run).wire.world event → ⊥

@@ -121,7 +121,6 @@ spelled_built names words (events.Draft table schema) s = table_made (codes "dra
 spelled_built names words (events.Client client gate tables) s = record { least = s.1.0; most = s.1.1 }
 spelled_built names words (events.Save store table client terms) s = absurd s
 spelled_built names words (events.Ask client table) s = absurd s
-spelled_built names words (events.Net it) s = absurd s
 spelled_built names words other s = tt
 
 -- and a frame has room for its schema

@@ -7,9 +7,9 @@ use Rattle.wire_steps.specs.declared.world.World as wire_world
 use Rattle.wire_steps.specs.Steps as wires
 use Rattle.wire_steps.proofs.Started.{sends_alone}
 use Rattle.net_steps.specs.declared.world.World.{World}
-use Rattle.net_steps.specs.Steps.{IsUndone}
+use Rattle.net_steps.specs.Steps.{IsUndone, may_begin}
 use Rattle.net_steps.specs.Calls.{Comes, Overruns}
-use Rattle.net_steps.proofs.Carried.{wire_of}
+use Rattle.net_steps.proofs.Carried.{begun_here, wire_of}
 use Rattle.net_steps.proofs.CarriedOut.{wire_stands, to_carry_on, carry_comes, carry_overruns, step_overruns, step_limited, step_undone}
 use Rattle.net_steps.proofs.world.World.carry_out.Goals as goal
 
@@ -33,7 +33,8 @@ returns-in_err-lines-clause-limit g c n m at on below =
 
 pub returns-in_err-lines-clause-plans : goal.returns-in_err-lines-clause-plans
 returns-in_err-lines-clause-plans g c n m at below =
-    c.in_err-lines.ensures.plans n.wire m (wire_of n (before_reached n c.args.event.now at.before)) at.held.wire below
+    begun_here g.D.Disk.state n c.args.event.now m c.step.new.self
+    (c.in_err-lines.ensures.plans n.wire m (wire_of n (before_reached n c.args.event.now at.before)) at.held.wire below)
 
 pub returns-in_err-lines-clause-left : goal.returns-in_err-lines-clause-left
 returns-in_err-lines-clause-left g c n at =
@@ -74,9 +75,10 @@ returns-clause-over g c n at on =
 
 pub returns-clause-plans : goal.returns-clause-plans
 returns-clause-plans g c n m at below =
-    subst (λ (w : wire_world.World g.row.D.Denot). wires.HavePlansBelow g.D.Disk.state (wires.may_begin n.wire.world c.args.event.now + m) w)
+    subst (λ (w : wire_world.World g.row.D.Denot). wires.HavePlansBelow g.D.Disk.state (may_begin n c.args.event.now + m) w)
     (sym (ap (λ (w : World g.row.D.Denot). w.wire) c.carry.ensures.same))
-    (c.in_ok-lines.ensures.plans n.wire m (wire_of n (before_reached n c.args.event.now at.before)) at.held.wire below)
+    (begun_here g.D.Disk.state n c.args.event.now m c.step.new.self
+    (c.in_ok-lines.ensures.plans n.wire m (wire_of n (before_reached n c.args.event.now at.before)) at.held.wire below))
 
 pub returns-clause-left : goal.returns-clause-left
 returns-clause-left g c n at =

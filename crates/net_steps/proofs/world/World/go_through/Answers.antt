@@ -7,7 +7,7 @@ use Rattle.wire_steps.proofs.Started.{sends_alone, sends_counted}
 use Rattle.wire_tables.specs.Wire.{wire_step}
 use Rattle.net_steps.specs.declared.world.World.{World}
 use Rattle.net_steps.specs.Steps.{IsUndone, may_begin}
-use Rattle.net_steps.proofs.Carried.{wire_of}
+use Rattle.net_steps.proofs.Carried.{begun_here, wire_of}
 use Rattle.net_steps.proofs.CarriedOut.{step_undone}
 use Rattle.net_steps.proofs.Passing.{wire_stood, to_send, gone_through, gone_beyond, step_beyond, rest_too, plans_too}
 use Rattle.net_steps.proofs.world.World.go_through.Goals as goal
@@ -29,7 +29,8 @@ returns-in_err-lines-clause-limit g c n m x below =
     rw (p.1, p.2) (c.in_err-lines.ensures.limit n.wire m (wire_of n x.reached) x.held.wire below)
 
 pub returns-in_err-lines-clause-plans : goal.returns-in_err-lines-clause-plans
-returns-in_err-lines-clause-plans g c n m x below = c.in_err-lines.ensures.plans n.wire m (wire_of n x.reached) x.held.wire below
+returns-in_err-lines-clause-plans g c n m x below =
+    begun_here g.D.Disk.state n c.args.event.now m c.step.new.self (c.in_err-lines.ensures.plans n.wire m (wire_of n x.reached) x.held.wire below)
 
 pub returns-in_err-lines-clause-left : goal.returns-in_err-lines-clause-left
 returns-in_err-lines-clause-left g c n x =
@@ -72,7 +73,7 @@ returns-clause-limit g c n m x below = send_limited (Spends m n.wire.world c.arg
 pub returns-clause-plans : goal.returns-clause-plans
 returns-clause-plans g c n m x below =
     plans_too g.D.Disk.state (may_begin n c.args.event.now + m) (record c.args.self.now { wire = c.step.new.self }) c.carry.new.self (ap (λ (y : World g.row.D.Denot). y.wire) c.carry.ensures.same)
-    (c.in_ok-lines.ensures.plans n.wire m (wire_of n x.reached) x.held.wire below)
+    (begun_here g.D.Disk.state n c.args.event.now m c.step.new.self (c.in_ok-lines.ensures.plans n.wire m (wire_of n x.reached) x.held.wire below))
 
 pub returns-clause-left : goal.returns-clause-left
 returns-clause-left g c n x =

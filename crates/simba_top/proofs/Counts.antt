@@ -39,7 +39,7 @@ use Rattle.simba_top.proofs.Behind.{net_from-push}
 abbrev most : ℕ
 most = 67 * MOST_LINES
 
-module _ (run : List Happening) (few : length run ≤ most) (plans : ℕ) (begun : plans ≤ most * most + most * 4) where
+module _ (run : List Happening) (few : length run ≤ most) (plans : ℕ) (begun : plans ≤ 64 + (most * most + most * 4)) where
   writes_few : begun_in run ≤ most * most
   writes_few = let a = begun_few run in let b = mul-le (length run) (length run) most most few few in omega (arith, a, b)
 
@@ -145,10 +145,14 @@ module _ (run : List Happening) (first : AreDeclaredFirst run) (built : AreBuilt
       let times = mul-le (length run) (67 * length run + 67) MOST_LINES (most + 67) few more in
       omega (arith, begun, times)
 
-  wire_left : (event : Event) → wires.Spends (plans_from start run) (net_from start run).wire.world event → ⊥
-  wire_left event spent =
-      none_spent (whole run first built).whole (let short = whole_few run first built in omega (arith, short, few)) (plans_from start run) plans_few event
-      (subst (λ (w : World). wires.Spends (plans_from start run) w event) (sym (whole_world run first built)) spent)
+  -- nor with those that a message begins which tells of changes
+  wire_left : (plans : ℕ) → plans ≤ 64 + plans_from start run → (event : Event)
+      → wires.Spends plans (net_from start run).wire.world event → ⊥
+  wire_left plans more event spent =
+      let short = whole_few run first built in
+      let begun = plans_few in
+      none_spent (whole run first built).whole (omega (arith, short, few)) plans (omega (arith, more, begun)) event
+      (subst (λ (w : World). wires.Spends plans w event) (sym (whole_world run first built)) spent)
 
   -- no gateway has started so often, or drawn so many tokens since
   gates_left : GateSpends (net_from start run) → ⊥
@@ -162,6 +166,7 @@ module _ (run : List Happening) (first : AreDeclaredFirst run) (built : AreBuilt
       drawn_left (Some running) drawn all = omega (arith, all, drawn, few)
 
   pub not_spent : (event : Event) → Spends (plans_from start run) (net_from start run) event → ⊥
-  not_spent (events.Deliver packet) spent = ⊎_elim (wire_left (events.Deliver packet)) gates_left spent
+  not_spent (events.Deliver packet) spent =
+      ⊎_elim (wire_left (64 + plans_from start run) (omega arith) (events.Deliver packet)) gates_left spent
   not_spent (events.Start (nodes.Gate number)) spent = gates_left spent
-  not_spent other spent = wire_left other spent
+  not_spent other spent = wire_left (plans_from start run) (omega arith) other spent

@@ -14,13 +14,15 @@ use Rattle.value_codec.specs.SchemaSpelling.{schema_spelling, HasSchemaSpelling,
 use Rattle.vault.specs.Limit.{payload_most}
 use Rattle.table_model.specs.declared.event.Event.{Event}
 use Rattle.table_model.specs.declared.event.Event.TheVariants as events
+use Rattle.table_model.specs.declared.event.NetEvent.{NetEvent}
+use Rattle.table_model.specs.declared.event.NetEvent.TheVariants as nets
 use Rattle.fair_laws.specs.Reached.{IsMade, IsBuilt}
 use Rattle.net_network.specs.Short.{frame_room}
 use Rattle.net_steps.specs.Holds.{IsFramedEvent}
 use Rattle.script_words.specs.Words.{is_name, is_name_byte}
 use Rattle.script_words.proofs.WordLemmas.{both}
 use Rattle.script_text.specs.Names.{Names}
-use Rattle.script_text.specs.Grammar.{IsChunk, AreColumns, SpellsNewTable, SpelledBy, Spells}
+use Rattle.script_text.specs.Grammar.{IsChunk, AreColumns, SpellsNewTable, SpellsNet, SpelledBy, Spells}
 
 -- ---- names
 
@@ -123,10 +125,19 @@ spelled_built names words (events.Save store table client terms) s = absurd s
 spelled_built names words (events.Ask client table) s = absurd s
 spelled_built names words other s = tt
 
+-- a period is one tick or more
+net_framed : (names : Names) (words : List (List ℕ)) (it : NetEvent) → SpellsNet names words it
+    → IsFramedEvent (events.Net it)
+net_framed names words (nets.Subscribe client table period tolerance) s = s.3
+net_framed names words (nets.Unsubscribe client table) s = tt
+net_framed names words (nets.WriteSync client table period tolerance) s = tt
+net_framed names words nets.Tick s = tt
+
 -- and a frame has room for its schema
 spelled_framed : (names : Names) (words : List (List ℕ)) (event : Event) → SpelledBy names words event → IsFramedEvent event
 spelled_framed names words (events.Table table schema) s = frame_short schema s.4 s.2 s.3
 spelled_framed names words (events.Draft table schema) s = frame_short schema s.4 s.2 s.3
+spelled_framed names words (events.Net it) s = net_framed names words it s
 spelled_framed names words other s = tt
 
 pub built : (names : Names) (line : List ℕ) (event : Event) → Spells names line event → IsBuilt event

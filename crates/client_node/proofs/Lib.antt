@@ -78,3 +78,4 @@ pub mod KeptRows
 pub mod BarePlans
 pub mod AlteredPlans
 pub mod AlteredTables
+pub mod Marked

@@ -32,3 +32,4 @@ pub mod Noting
 pub mod Syncing
 pub mod Closed
 pub mod Altering
+pub mod Marking

@@ -5,6 +5,7 @@ mod closed;
 mod editing;
 pub(crate) mod held;
 mod listing;
+pub(crate) mod marking;
 pub(crate) mod phases;
 pub(crate) mod pulling;
 mod resolving;

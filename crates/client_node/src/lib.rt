@@ -26,5 +26,6 @@ mod torn;
 mod waiting;
 
 pub use calls::held::RowHeld;
+pub use calls::marking::ToSync;
 pub use fault::CallFault;
 pub use node::ClientNode;

@@ -66,9 +66,9 @@ fn first_of<D: Disk + Drop>(
     Ok(None)
 }
 
-// The number of the write of the first of a table's rows in a set whose write waits for its answer. The rows before it
-// are added to those that wait for none.
-fn first_out<D: Disk + Drop>(
+/// The number of the write of the first of a table's rows in a set whose write waits for its answer. The rows before it
+/// are added to those that wait for none.
+pub(crate) fn first_out<D: Disk + Drop>(
     alloc: Global,
     devs: &mut Journal<D>,
     outs: &BTreeSet<RowKey>,

@@ -11,12 +11,14 @@ use Rattle.client_node.specs.declared.fault.CallFault.{CallFault}
 use Rattle.client_node.specs.declared.fault.CallFault.TheVariants.{Disk}
 use Rattle.client_node.specs.declared.node.ClientNode.{ClientNode}
 use Rattle.client_node.specs.Calls.{Stays as NodeStays}
-use Rattle.client_node.specs.Node.{IsClient}
+use Rattle.client_node.specs.Marking.{HasNoTask}
+use Rattle.client_node.specs.Node.{IsClient, has_task}
 use Rattle.client_node.specs.Phases.{KeepsPhases}
-use Rattle.world_tables.specs.World.{World, client_at, client_falls, is_cut, is_client_down}
+use Rattle.world_tables.specs.World.{World, client_at, client_tasks, client_falls, is_cut, is_client_down}
 use Rattle.journal_host.specs.declared.host.ClientHost.{ClientHost}
 use Rattle.journal_host.specs.Calls.{IsMoved, Stays, HasMoveCause}
 use Rattle.journal_host.specs.Holds.{IsHosted, HoldsClients, outs_in, faults_at}
+use Rattle.journal_host.specs.Moves.{has_work}
 use Rattle.journal_host.specs.Steps.{OnlyLooks, HasTold, HasNodeCause}
 use Rattle.journal_host.proofs.Lists.{no_more}
 use Rattle.journal_host.proofs.Clients.{found, not_found, down_is, move_done, held_still, nowhere_held}
@@ -31,6 +33,17 @@ node_up {D} state w host c node h is up = pick node.is_up refl
     pick false so =
         let there = found state w host.clients c h.there node is in
         absurd (let down : is_client_down (client_at w c) ≡ true = ap is_client_down there.1 ∙ down_is state node there.0.disk there.0.agenda there.2.client so in let no : true ≡ false = sym down ∙ up in cc)
+
+no_task : (s : Client) (agenda : Option (List ClientTask)) → has_work (client_tasks (Some (record s { agenda = agenda }))) ≡ false → has_task agenda ≡ false
+no_task s None idle = refl
+no_task s (Some []) idle = refl
+no_task s (Some (task ∷ tasks)) idle = absurd cc
+
+-- and one that has no write to do there has none
+pub node_idle : {D : Type 0} (state : D → DiskState) (w : World) (host : ClientHost D) (c : ℕ) (node : ClientNode D) → HoldsClients state w host → Some node ≡ tree.get nat_cmp host.clients c → has_work (client_tasks (client_at w c)) ≡ false → HasNoTask state node
+node_idle state w host c node h is idle =
+    let there = found state w host.clients c h.there node is in
+    (there.0, there.2.client, no_task there.0 there.0.agenda (sym (ap (λ (o : Option Client). has_work (client_tasks o)) there.1) ∙ idle))
 
 -- what a call that only reads says of its disks
 pub looks_cause : {D T : Type 0} (state : D → DiskState) (s : Client) (node after : ClientNode D) (r : Result T CallFault) → OnlyLooks state s node after r → HasNodeCause state node after r

@@ -4,6 +4,7 @@ use Rattle.std.specs.Prelude.{IfErr, IsErrOf, is_some, option_map, if◌then◌e
 use Rattle.std.specs.BTreeMap as tree
 use Rattle.disk_trait.specs.Calls.{DiskState}
 use Rattle.stab_base.specs.declared.limits.TheConstants.{NUMBER_MAX}
+use Rattle.stab_base.specs.declared.node.Node.TheVariants as nodes
 use Rattle.table_model.specs.declared.line.Answer.{Answer}
 use Rattle.table_model.specs.declared.line.RowPair.{RowPair}
 use Rattle.step_tables.specs.Facts.{PairLine}
@@ -11,11 +12,13 @@ use Rattle.step_tables.specs.Lines.{answer_of}
 use Rattle.step_tables.specs.Messages.{Luck, Done}
 use Rattle.step_tables.specs.ClientMoves.{Shape, Client, TableDisk, seen, table_at}
 use Rattle.client_node.specs.HeldRows.{row_held}
+use Rattle.client_node.specs.Marking.{no_marks, marks_of}
 use Rattle.client_node.specs.declared.calls.held.RowHeld.{RowHeld}
+use Rattle.client_node.specs.declared.calls.marking.ToSync.{ToSync}
 use Rattle.client_node.specs.declared.fault.CallFault.{CallFault}
 use Rattle.client_node.specs.declared.fault.CallFault.TheVariants.{Disk, Memory}
 use Rattle.client_node.specs.declared.node.ClientNode.{ClientNode}
-use Rattle.world_tables.specs.World.{World, WorldStep, Moved, owner_of, listed, client_at, client_tasks, first_luck}
+use Rattle.world_tables.specs.World.{World, WorldStep, Moved, owner_of, listed, client_at, client_tasks, first_luck, is_down}
 use Rattle.journal_host.specs.declared.fault.ClientFault.{ClientFault}
 use Rattle.journal_host.specs.declared.fault.ClientFault.TheVariants as fault
 use Rattle.journal_host.specs.declared.host.ClientHost.{ClientHost}
@@ -74,6 +77,16 @@ held_by (Some s) table row = option_map (row_held row) (if_open (table_at (seen 
 abbrev pub has_table : Option Client → ℕ → Bool
 has_table None table = false
 has_table (Some s) table = is_some (if_open (table_at (seen s.disk) table))
+
+-- what a synchronization of a table at a client would do; nothing at one that isn't there
+abbrev pub marks_at : Option Client → ℕ → ToSync
+marks_at None table = no_marks
+marks_at (Some s) table = marks_of (table_at (seen s.disk) table)
+
+-- a client that isn't down, and has no write to do
+pub record IsIdleClient (w : World) (c : ℕ) : Type 0 where
+  pub up : is_down w (nodes.Client c) ≡ false
+  pub idle : has_work (client_tasks (client_at w c)) ≡ false
 
 -- ---- causes
 

@@ -18,7 +18,7 @@ ghost use Rattle.journal_host.specs.declared.asking.Request.TheVariants as reque
 ghost use Rattle.journal_host.specs.declared.fault.ClientFault.TheVariants.{Memory};
 ghost use Rattle.journal_host.specs.Asks.{move_of, asked_by, CanAsk, FitsIn, AreAsked};
 ghost use Rattle.journal_host.specs.Calls.{IsMoved, IsCalled, Comes, Lists, Stays, HasCause, HasMoveCause};
-ghost use Rattle.journal_host.specs.Calls.{HasLuck, IsNumberCause, held_by, has_table};
+ghost use Rattle.journal_host.specs.Calls.{HasLuck, IsNumberCause, held_by, has_table, IsIdleClient, marks_at};
 ghost use Rattle.journal_host.specs.Holds.{HoldsClients, AreClients, HasSchemas, AreToOpen, SameFaults, disks_at};
 ghost use Rattle.journal_host.specs.Holds.{faults_at, HavePlansBelow, IsPlanAt};
 ghost use Rattle.journal_host.specs.Opening.{HasJoinLuck};
@@ -30,7 +30,7 @@ use crate::holding::{has_open, open_row};
 use crate::hosted::{answered, call, crash, is_ready, link, list, plan_at, start, work};
 use crate::opening::joining;
 use crate::out::ClientOut;
-use client_node::{CallFault, ClientNode, RowHeld};
+use client_node::{CallFault, ClientNode, RowHeld, ToSync};
 use conflicts::Stored;
 use disk_trait::Disk;
 use row_value::Schema;
@@ -466,6 +466,33 @@ impl<D: Disk + Drop> ClientHost<D> {
         match self.clients.get_mut(&client) {
             Some(node) => has_open(node, table),
             None => Ok(false),
+        }
+    }
+
+    /// What a synchronization of the table at a client that is up and has no write to do would do now: nothing where the
+    /// client hasn't opened it, or has closed it, or hasn't joined.
+    ///
+    /// # Errors
+    ///
+    /// `Disk`, and the client is down then, and `Memory`.
+    pub fn to_sync(&mut self, client: ClientNo, table: TableNo) -> Result<ToSync, CallFault>
+        requires idle { (w : AWorld) × HoldsClients D.state w self.old × IsIdleClient w client }
+        ensures held { (w : AWorld) → HoldsClients D.state w self.old
+            → IfOk result (λ found. found ≡ marks_at (client_at w client) table) }
+        ensures kept { (w : AWorld) → HoldsClients D.state w self.old → (IsErrOf result DiskFailed → ⊥)
+            → Stays D.state w self.old self.new }
+        ensures fallen { (w : AWorld) → HoldsClients D.state w self.old → IsErrOf result DiskFailed
+            → IsMoved D.state self.old self.new (client_falls client w) }
+        ensures cause { HasMoveCause D.state client self.old.clients self.new.clients result }
+        ensures plans { (n : ℕ) → HavePlansBelow D.state n self.old.clients
+            → HavePlansBelow D.state (suc n) self.new.clients }
+    {
+        match self.clients.get_mut(&client) {
+            Some(node) => node.to_sync(table),
+            None => Ok(ToSync {
+                again: false,
+                next: false,
+            }),
         }
     }
 

@@ -10,7 +10,7 @@ ghost use Rattle.world_tables.specs.World.{is_cut, is_down, Hosted as AHosted};
 ghost use Rattle.world_tables.specs.Ready.{is_table_ready, is_client_ready, is_idle_table};
 ghost use Rattle.store_host.specs.Calls.{busy_version, state_at, subs_at};
 ghost use Rattle.store_host.specs.Holds.{AreLeft, is_up_for, is_up_there, owner_at};
-ghost use Rattle.journal_host.specs.Calls.{held_by, has_table};
+ghost use Rattle.journal_host.specs.Calls.{held_by, has_table, IsIdleClient, marks_at};
 ghost use Rattle.journal_host.specs.Holds.{IsPlanAt};
 ghost use Rattle.journal_host.specs.Moves.{has_work};
 ghost use Rattle.node_steps.specs.declared.fault.WorldFault.TheVariants.{Memory};
@@ -22,7 +22,7 @@ ghost use Rattle.node_steps.specs.Steps.{HavePlansBelow};
 use crate::fault::WorldFault;
 use crate::told::Read;
 use crate::world::World;
-use client_node::{CallFault, RowHeld};
+use client_node::{CallFault, RowHeld, ToSync};
 use disk_trait::Disk;
 use row_value::{ClientNo, RowId, Schema, Sequence, TableNo, Version};
 use stab_base::{Node, StoreNo};
@@ -215,21 +215,9 @@ impl<D: Disk + Drop> World<D> {
     {
         match self.clients.held_row(client, table, row) {
             Ok(found) => Ok(Read::Found(found)),
-            Err(CallFault::Disk) => self.row_fallen(),
+            Err(CallFault::Disk) => self.look_fallen(),
             Err(_) => Err(WorldFault::Memory),
         }
-    }
-
-    // That a disk of a client has failed.
-    fn row_fallen(&mut self) -> Result<Read<Option<RowHeld>>, WorldFault>
-        ensures told { IfOk result
-            (TellsFall (HasToldClients D.state self.old self.new (facts.Refuses facts.NoDevice))) }
-        ensures store { self.new.store ≡ self.old.store }
-        ensures nodes { self.new.clients.clients ≡ self.old.clients.clients }
-        ensures memory { IfErr result (λ e. e ≡ Memory) }
-    {
-        let told = self.tell_clients(Answer::Refused(Refusal::NoDevice))?;
-        Ok(Read::Fallen(told))
     }
 
     /// Whether a client has a table opened, and hasn't closed it.
@@ -244,13 +232,30 @@ impl<D: Disk + Drop> World<D> {
     {
         match self.clients.has_opened(client, table) {
             Ok(found) => Ok(Read::Found(found)),
-            Err(CallFault::Disk) => self.opening_fallen(),
+            Err(CallFault::Disk) => self.look_fallen(),
             Err(_) => Err(WorldFault::Memory),
         }
     }
 
-    // The same where it was to say whether it has a table opened.
-    fn opening_fallen(&mut self) -> Result<Read<bool>, WorldFault>
+    /// What a synchronization of a table at a client that is up and has no write to do would do now.
+    pub fn to_sync(&mut self, client: ClientNo, table: TableNo) -> Result<Read<ToSync>, WorldFault>
+        requires held { (w : AWorld) × Holds D.state w self.old × IsIdleClient w client }
+        ensures read { (w : AWorld) → Holds D.state w self.old
+            → IfOk result (HasRead D.state w (client_falls client w)
+            (λ found. found ≡ marks_at (client_at w client) table) self.old self.new) }
+        ensures store { self.new.store ≡ self.old.store }
+        ensures plans { (n : ℕ) → HavePlansBelow D.state n self.old → HavePlansBelow D.state (suc n) self.new }
+        ensures memory { IfErr result (λ e. e ≡ Memory) }
+    {
+        match self.clients.to_sync(client, table) {
+            Ok(found) => Ok(Read::Found(found)),
+            Err(CallFault::Disk) => self.look_fallen(),
+            Err(_) => Err(WorldFault::Memory),
+        }
+    }
+
+    // That a disk of a client has failed that was to be looked at.
+    fn look_fallen<T: Drop>(&mut self) -> Result<Read<T>, WorldFault>
         ensures told { IfOk result
             (TellsFall (HasToldClients D.state self.old self.new (facts.Refuses facts.NoDevice))) }
         ensures store { self.new.store ≡ self.old.store }

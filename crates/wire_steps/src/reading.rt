@@ -1,5 +1,5 @@
 //! Reads of the world.
-ghost use Rattle.std.specs.Prelude.{◌≡◌, ℕ, suc, Bool, true, option_copied, option_map, is_some, length, slice_get};
+ghost use Rattle.std.specs.Prelude.{◌≡◌, ℕ, suc, Bool, true, false, option_copied, option_map, is_some, length, slice_get};
 ghost use Rattle.std.specs.Prelude.{IfOk, IfErr, IfSome};
 ghost use Rattle.std.specs.Ordering.{nat_cmp};
 ghost use Rattle.std.specs.BTreeMap as tree;
@@ -16,11 +16,12 @@ ghost use Rattle.node_steps.specs.Holds as nodes;
 ghost use Rattle.node_steps.specs.Holds.{AreOut};
 ghost use Rattle.node_steps.specs.Reads.{subs_up};
 ghost use Rattle.wire_steps.specs.Holds.{Holds};
-ghost use Rattle.wire_steps.specs.Opening.{HasRead};
+ghost use Rattle.wire_steps.specs.Opening.{HasRead, HasMarked};
 ghost use Rattle.wire_steps.specs.Reached.{IsReached};
 ghost use Rattle.wire_steps.specs.Steps.{HavePlansBelow};
 
 use crate::world::World;
+use client_node::ToSync;
 use disk_trait::Disk;
 use node_steps::{Lines, WorldFault};
 use row_value::Schema;
@@ -154,6 +155,27 @@ impl<D: Disk + Drop> World<D> {
     {
         match self.nodes.has_opened(client, table)? {
             node_steps::Read::Found(found) => Ok(Read::Found(found)),
+            node_steps::Read::Fallen(told) => {
+                let lines = self.tell(told)?;
+                Ok(Read::Fallen(lines))
+            }
+        }
+    }
+
+    /// What a synchronization of a table at a client that is there and up, and has no write to do, would do now. Where its
+    /// disks can't be read, that is what synchronizing the table comes to, whose device calls begin with a failure.
+    pub fn to_sync(&mut self, client: ClientNo, table: TableNo) -> Result<Read<ToSync>, WorldFault>
+        requires held { (v : Wire) × IsReached v × Holds D.state v self.old
+            × (is_client_up (client_at v.world client) ≡ true)
+            × (has_work (client_tasks (client_at v.world client)) ≡ false) }
+        ensures read { (v : Wire) (is_out : ℕ → Bool) → IsReached v → Holds D.state v self.old
+            → is_client_up (client_at v.world client) ≡ true → AreOut is_out v.world
+            → IfOk result (HasMarked D.state D.images v client table is_out self.old self.new) }
+        ensures plans { (n : ℕ) → HavePlansBelow D.state n self.old → HavePlansBelow D.state (suc n) self.new }
+        ensures memory { IfErr result (λ e. e ≡ Memory) }
+    {
+        match self.nodes.to_sync(client, table)? {
+            node_steps::Read::Found(marks) => Ok(Read::Found(marks)),
             node_steps::Read::Fallen(told) => {
                 let lines = self.tell(told)?;
                 Ok(Read::Fallen(lines))

@@ -18,9 +18,9 @@ returns-in-Ok-clause-read g c w h =
 
 pub returns-in-Err-Disk-clause-read : goal.returns-in-Err-Disk-clause-read
 returns-in-Err-Disk-clause-read g c w h =
-    client_fallen g.D.Disk.state w c.args.self.now h c.args.client (λ (found : Bool). found ≡ has_table (client_at w c.args.client) c.args.table) c.has_opened.new.self c.opening_fallen.new.self c.opening_fallen.result
-    (c.in-Err-Disk.ensures.fallen w h.clients (let is = c.in-Err-Disk.field-0-is in cc)) (c.in-Err-Disk.ensures.cause.cause (let is = c.in-Err-Disk.field-0-is in cc)) c.opening_fallen.ensures.told
+    client_fallen g.D.Disk.state w c.args.self.now h c.args.client (λ (found : Bool). found ≡ has_table (client_at w c.args.client) c.args.table) c.has_opened.new.self c.look_fallen.new.self c.look_fallen.result
+    (c.in-Err-Disk.ensures.fallen w h.clients (let is = c.in-Err-Disk.field-0-is in cc)) (c.in-Err-Disk.ensures.cause.cause (let is = c.in-Err-Disk.field-0-is in cc)) c.look_fallen.ensures.told
 
 pub returns-in-Err-Disk-clause-plans : goal.returns-in-Err-Disk-clause-plans
 returns-in-Err-Disk-clause-plans g c n plans =
-    plans_told g.D.Disk.state c.has_opened.new.self c.opening_fallen.new.self (suc n) c.opening_fallen.ensures.nodes (c.in-Err-Disk.ensures.plans n plans)
+    plans_told g.D.Disk.state c.has_opened.new.self c.look_fallen.new.self (suc n) c.look_fallen.ensures.nodes (c.in-Err-Disk.ensures.plans n plans)

@@ -19,9 +19,9 @@ returns-in-Ok-clause-read g c w h =
 
 pub returns-in-Err-Disk-clause-read : goal.returns-in-Err-Disk-clause-read
 returns-in-Err-Disk-clause-read g c w h =
-    client_fallen g.D.Disk.state w c.args.self.now h c.args.client (λ (found : Option RowHeld). found ≡ held_by (client_at w c.args.client) c.args.table c.args.row.now) c.held_row.new.self c.row_fallen.new.self c.row_fallen.result
-    (c.in-Err-Disk.ensures.fallen w h.clients (let is = c.in-Err-Disk.field-0-is in cc)) (c.in-Err-Disk.ensures.cause.cause (let is = c.in-Err-Disk.field-0-is in cc)) c.row_fallen.ensures.told
+    client_fallen g.D.Disk.state w c.args.self.now h c.args.client (λ (found : Option RowHeld). found ≡ held_by (client_at w c.args.client) c.args.table c.args.row.now) c.held_row.new.self c.look_fallen.new.self c.look_fallen.result
+    (c.in-Err-Disk.ensures.fallen w h.clients (let is = c.in-Err-Disk.field-0-is in cc)) (c.in-Err-Disk.ensures.cause.cause (let is = c.in-Err-Disk.field-0-is in cc)) c.look_fallen.ensures.told
 
 pub returns-in-Err-Disk-clause-plans : goal.returns-in-Err-Disk-clause-plans
 returns-in-Err-Disk-clause-plans g c n plans =
-    plans_told g.D.Disk.state c.held_row.new.self c.row_fallen.new.self (suc n) c.row_fallen.ensures.nodes (c.in-Err-Disk.ensures.plans n plans)
+    plans_told g.D.Disk.state c.held_row.new.self c.look_fallen.new.self (suc n) c.look_fallen.ensures.nodes (c.in-Err-Disk.ensures.plans n plans)

@@ -1,6 +1,8 @@
 use Rattle.std.proofs.lemmas.Result.{err_from_is_err_and}
+use Rattle.table_model.specs.declared.event.Event.TheVariants as events
+use Rattle.stab_base.specs.declared.node.Node.TheVariants as nodes
 use Rattle.wire_steps.proofs.Answered.{plans_stay}
-use Rattle.wire_steps.proofs.Opened.{up_not_down, found_opened, fall_memory, fall_tells, fall_opened}
+use Rattle.wire_steps.proofs.Opened.{up_not_down, found_opened, drop_falls, fall_memory, fall_tells, fall_stepped}
 use Rattle.wire_steps.proofs.world.World.has_opened.Goals as goal
 
 pub has_opened-requires : goal.has_opened-requires
@@ -10,30 +12,31 @@ pub tell-requires : goal.tell-requires
 tell-requires g c =
     let x = c.requires.held in
     record {
-      told = fall_tells g.D.Disk.state g.D.Disk.images g.met.D.Disk.only_now x.0 c.args.self.now c.args.client c.args.table x.2 c.has_opened.new.self c.in_ok-found.ensures.store x.1 c.in-Fallen.told
-          (rw c.in-Fallen.is at (c.in_ok-found.ensures.read x.0.world x.2.nodes)) x.3;
+      told = fall_tells g.D.Disk.state g.D.Disk.images g.met.D.Disk.only_now x.0 c.args.self.now c.args.client x.2 c.has_opened.new.self c.in_ok-found.ensures.store x.1 c.in-Fallen.told
+          (rw c.in-Fallen.is at (c.in_ok-found.ensures.read x.0.world x.2.nodes)) (events.Drop (nodes.Client c.args.client) c.args.table) (drop_falls x.0 c.args.client c.args.table x.3);
     }
 
 pub returns-in-Found-clause-read : goal.returns-in-Found-clause-read
 returns-in-Found-clause-read g c v is_out r h up out =
-    found_opened g.D.Disk.state g.D.Disk.images g.met.D.Disk.only_now v c.args.self.now c.args.client c.args.table h c.has_opened.new.self c.in_ok-found.ensures.store c.in-Found.found
+    found_opened g.D.Disk.state g.D.Disk.images g.met.D.Disk.only_now v c.args.self.now c.args.client h c.has_opened.new.self c.in_ok-found.ensures.store c.args.table c.in-Found.found
     (rw c.in-Found.is at (c.in_ok-found.ensures.read v.world h.nodes))
 
 pub returns-in_ok-lines-in-Fallen-clause-read : goal.returns-in_ok-lines-in-Fallen-clause-read
 returns-in_ok-lines-in-Fallen-clause-read g c v is_out r h up out =
     let store = c.in_ok-found.ensures.store in
     let read = rw c.in-Fallen.is at (c.in_ok-found.ensures.read v.world h.nodes) in
-    fall_opened g.D.Disk.state g.D.Disk.images g.met.D.Disk.only_now v c.args.self.now c.args.client c.args.table h c.has_opened.new.self store r c.in-Fallen.told read up is_out out c.tell.new.self
+    let falls = drop_falls v c.args.client c.args.table up in
+    fall_stepped g.D.Disk.state g.D.Disk.images g.met.D.Disk.only_now v c.args.self.now c.args.client h c.has_opened.new.self store r c.in-Fallen.told read (events.Drop (nodes.Client c.args.client) c.args.table) falls is_out out c.tell.new.self
     c.tell.ensures.nodes c.in_ok-lines-in-Fallen.lines
-    (c.in_ok-lines-in-Fallen.ensures.told (fall_tells g.D.Disk.state g.D.Disk.images g.met.D.Disk.only_now v c.args.self.now c.args.client c.args.table h c.has_opened.new.self store r c.in-Fallen.told read up))
+    (c.in_ok-lines-in-Fallen.ensures.told (fall_tells g.D.Disk.state g.D.Disk.images g.met.D.Disk.only_now v c.args.self.now c.args.client h c.has_opened.new.self store r c.in-Fallen.told read (events.Drop (nodes.Client c.args.client) c.args.table) falls))
 
 pub returns-in_err-lines-in-Fallen-clause-memory : goal.returns-in_err-lines-in-Fallen-clause-memory
 returns-in_err-lines-in-Fallen-clause-memory g c =
     let x = c.requires.held in
     let p = err_from_is_err_and c.from_residual-in_err-lines-in-Fallen.result c.from_residual-in_err-lines-in-Fallen.ensures.1 in
     rw (p.1, p.2) (fall_memory g.D.Disk.state x.0 c.args.self.now x.2 c.args.client c.in_err-lines-in-Fallen.field-0.0
-    (c.in_err-lines-in-Fallen.ensures.over (fall_tells g.D.Disk.state g.D.Disk.images g.met.D.Disk.only_now x.0 c.args.self.now c.args.client c.args.table x.2 c.has_opened.new.self c.in_ok-found.ensures.store
-    x.1 c.in-Fallen.told (rw c.in-Fallen.is at (c.in_ok-found.ensures.read x.0.world x.2.nodes)) x.3)) c.in_err-lines-in-Fallen.ensures.only)
+    (c.in_err-lines-in-Fallen.ensures.over (fall_tells g.D.Disk.state g.D.Disk.images g.met.D.Disk.only_now x.0 c.args.self.now c.args.client x.2 c.has_opened.new.self c.in_ok-found.ensures.store
+    x.1 c.in-Fallen.told (rw c.in-Fallen.is at (c.in_ok-found.ensures.read x.0.world x.2.nodes)) (events.Drop (nodes.Client c.args.client) c.args.table) (drop_falls x.0 c.args.client c.args.table x.3))) c.in_err-lines-in-Fallen.ensures.only)
 
 pub returns-in_ok-lines-in-Fallen-clause-plans : goal.returns-in_ok-lines-in-Fallen-clause-plans
 returns-in_ok-lines-in-Fallen-clause-plans g c n below =

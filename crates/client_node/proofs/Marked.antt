@@ -1,6 +1,7 @@
 -- What is found of a table by the rows that are noted is what a synchronization of it would do.
 use Rattle.std.proofs.Common.{◌≡◌, ℕ, ◌+◌, ◌<◌, Bool, true, false, not, List, [], ◌∷◌, Option, Some, None, Ok, Err, refl, sym, ◌∙◌, ap, subst, arith}
-use Rattle.std.specs.Prelude.{◌==◌, ◌^◌, is_some, option_map, if◌then◌else◌, IsErrOf}
+use Rattle.std.specs.Prelude.{◌==◌, ◌^◌, ◌||◌, nat_lt, length, is_some, option_map, if◌then◌else◌, IsErrOf}
+use Rattle.std.proofs.lemmas.Bool.Decides.{nat_tests}
 use Rattle.disk_trait.specs.Calls.{DiskState}
 use Rattle.disk_trait.specs.Image.{IsImage}
 use Rattle.disk_trait.specs.Fuse.{behind, inner_of}
@@ -12,7 +13,8 @@ use Rattle.slot_store.specs.declared.held.TableRecord.{TableRecord}
 use Rattle.client_journal.specs.declared.devs.Journal.{Journal}
 use Rattle.client_journal.specs.Devs.{ClientDevs}
 use Rattle.client_journal.specs.Standing.{devs, writes_of}
-use Rattle.step_tables.specs.ClientMoves.{TableDisk, ClientDisk, ClientTask, Client, RowOut, table_at, slots_at, slots_in, seen, first_to_send}
+use Rattle.step_tables.specs.Slots.{InFlight}
+use Rattle.step_tables.specs.ClientMoves.{Slots, TableDisk, ClientDisk, ClientTask, Client, RowOut, Shape, table_at, slots_in, seen, first_to_send, row_out, request_for, resent, sync_first, sync_in, sync_step}
 use Rattle.journal_laws.specs.Holds.{IsRecordOf, state_of}
 use Rattle.journal_laws.specs.Whole.{whole_slots, whole_out}
 use Rattle.client_node.specs.declared.calls.marking.ToSync.{ToSync}
@@ -24,9 +26,10 @@ use Rattle.client_node.specs.declared.waiting.Stale.{Stale}
 use Rattle.client_node.specs.declared.waiting.Waiting.{Waiting}
 use Rattle.client_node.specs.Answers.{record_at, held_at, IsFault}
 use Rattle.client_node.specs.Calls.{Fell}
+use Rattle.client_node.specs.Closed.{closed_in}
 use Rattle.client_node.specs.HeldRows.{OnlyReads}
 use Rattle.client_node.specs.Looks.{Looks}
-use Rattle.client_node.specs.Marking.{has_to_resend, has_to_send, no_marks, row_marks, marks_of, is_open_record, AreMarks}
+use Rattle.client_node.specs.Marking.{has_to_resend, has_to_send, no_marks, row_marks, marks_of, is_marked, handles_row, is_open_record, AreMarks}
 use Rattle.client_node.specs.Node.{IsClient, has_task}
 use Rattle.client_node.specs.Readied.{IsIdleAt, IsIdle}
 use Rattle.client_node.specs.Requesting.{first_out, first_ready}
@@ -68,6 +71,39 @@ if_open false m open = refl
 if_shut : (closed : Bool) (m : ToSync) → not closed ≡ false → (if closed then no_marks else m) ≡ no_marks
 if_shut true m shut = refl
 if_shut false m shut = absurd cc
+
+-- ---- a table is marked where a synchronization of it handles a row
+
+some_counts : {X : Type 0} (x : X) (l : List X) → nat_lt 0 (length (x ∷ l)) ≡ true
+some_counts x l = grind (arith, nat_tests)
+
+one_more : (n : ℕ) → nat_lt 0 (n + 1) ≡ true
+one_more n = grind (arith, nat_tests)
+
+or_true : (b : Bool) → (b || true) ≡ true
+or_true true = refl
+or_true false = refl
+
+or_false : (b : Bool) → (b || false) ≡ b
+or_false true = refl
+or_false false = refl
+
+resent_some : (c table : ℕ) (rows : List (List ℕ × Slots)) → has_to_resend rows ≡ nat_lt 0 (length (resent c table rows))
+resent_some c table [] = refl
+resent_some c table (e ∷ rows) = pick e.1.out refl (resent_some c table rows)
+  where
+    pick : (o : Option InFlight) → e.1.out ≡ o → has_to_resend rows ≡ nat_lt 0 (length (resent c table rows)) → has_to_resend (e ∷ rows) ≡ nat_lt 0 (length (resent c table (e ∷ rows)))
+    pick None is more = rw is more
+    pick (Some out) is more = rw is (sym (some_counts (request_for c table e.0 out) (resent c table rows)))
+
+module _ (c : ℕ) (shape : Shape) (disk : ClientDisk) (table : ℕ) where
+  rows_handled : (size : ℕ) (rows : List (List ℕ × Slots)) (o : Option RowOut) → (has_to_resend rows || is_some o) ≡ handles_row (sync_first c shape disk table (resent c table rows) (option_map (row_out size) o)).answer
+  rows_handled size rows None = or_false (has_to_resend rows) ∙ resent_some c table rows
+  rows_handled size rows (Some x) = or_true (has_to_resend rows) ∙ sym (one_more (length (resent c table rows)))
+
+  handled : (o : Option TableDisk) → closed_in o ≡ false → is_marked (marks_of o) ≡ handles_row (sync_in c shape disk [] table o).answer
+  handled None open = refl
+  handled (Some opened) open = ap (λ (b : Bool). is_marked (if b then no_marks else row_marks opened.rows)) open ∙ rows_handled opened.schema.chunk opened.rows (first_to_send opened.rows)
 
 -- ---- of a table
 
@@ -159,6 +195,12 @@ module _ {D : Type 0} (state : D → DiskState) (images : D → ℕ → List ℕ
     idle_now disk None t = let no = t.at.0 in absurd cc
     idle_now disk (Some []) t = idle_at state images only_now old disk t is_up none
     idle_now disk (Some (task ∷ more)) t = absurd (let no = (tasks_of_writes old.number (devs st old.devs) (writes_of old.devs) disk (task ∷ more) t.at.1.follows).none none in cc)
+
+    pub sync_handles : (c : ℕ) (shape : Shape) (table : ℕ) (disk : ClientDisk) (agenda : Option (List ClientTask)) → IsClient state old (at disk agenda) → closed_in (table_at (seen disk) table) ≡ false
+        → is_marked (marks_of (table_at (seen disk) table)) ≡ handles_row (sync_step c shape disk agenda table).answer
+    sync_handles c shape table disk None t open = let no = t.at.0 in absurd cc
+    sync_handles c shape table disk (Some []) t open = handled c shape disk table (table_at (seen disk) table) open
+    sync_handles c shape table disk (Some (task ∷ more)) t open = absurd (let no = (tasks_of_writes old.number (devs st old.devs) (writes_of old.devs) disk (task ∷ more) t.at.1.follows).none none in cc)
 
     module _ (client : Journal (FuseDisk D)) where
       abbrev mid : ClientNode D

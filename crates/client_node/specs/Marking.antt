@@ -1,9 +1,12 @@
 -- What a synchronization of a table would do now.
-use Rattle.std.specs.Prelude.{◌≡◌, ℕ, ◌==◌, Bool, false, not, List, [], Option, Some, None, is_some, if◌then◌else◌}
+use Rattle.std.specs.Prelude.{◌≡◌, ℕ, ◌==◌, ◌||◌, nat_lt, Bool, false, not, List, Option, Some, None, is_some}
+use Rattle.std.specs.Prelude.{if◌then◌else◌}
 use Rattle.disk_trait.specs.Calls.{DiskState}
 use Rattle.held_value.specs.declared.slots.Slots.{Slots as HeldSlots}
 use Rattle.slot_store.specs.declared.held.TableRecord.{TableRecord}
 use Rattle.client_journal.specs.Devs.{ClientDevs}
+use Rattle.step_tables.specs.Facts.{Answer}
+use Rattle.step_tables.specs.Facts as facts
 use Rattle.step_tables.specs.ClientMoves.{Slots, TableDisk, Client, first_out, first_to_send}
 use Rattle.client_node.specs.declared.calls.marking.ToSync.{ToSync}
 use Rattle.client_node.specs.declared.node.ClientNode.{ClientNode}
@@ -29,6 +32,14 @@ row_marks rows = record { again = has_to_resend rows; next = has_to_send rows }
 abbrev pub marks_of : Option TableDisk → ToSync
 marks_of None = no_marks
 marks_of (Some opened) = if opened.closed then no_marks else row_marks opened.rows
+
+abbrev pub is_marked : ToSync → Bool
+is_marked marks = marks.again || marks.next
+
+-- whether a synchronization that is answered so handles a row
+abbrev pub handles_row : Answer → Bool
+handles_row (facts.Number count) = nat_lt 0 count
+handles_row other = false
 
 -- ---- as the devices have it
 

@@ -1,11 +1,13 @@
 //! What a synchronization of a table would do now.
-ghost use Rattle.std.specs.Prelude.{◌≡◌, ◌+◌, ◌<◌, ◌^◌, ℕ, [], true, IfOk, IfErr};
+ghost use Rattle.std.specs.Prelude.{◌≡◌, ◌+◌, ◌<◌, ◌^◌, ℕ, [], true, false, IfOk, IfErr};
 ghost use Rattle.client_journal.specs.Standing.{devs as held_by, writes_of, AreUp, IsReady};
-ghost use Rattle.step_tables.specs.ClientMoves.{ClientDisk, Client, table_at, seen};
+ghost use Rattle.step_tables.specs.ClientMoves.{ClientDisk, Client, Shape, table_at, seen, sync_step};
 ghost use Rattle.client_node.specs.Answers.{IsFault};
+ghost use Rattle.client_node.specs.Closed.{closed_in};
 ghost use Rattle.client_node.specs.HeldRows.{OnlyReads};
 ghost use Rattle.client_node.specs.Looks.{Looks};
-ghost use Rattle.client_node.specs.Marking.{no_marks, marks_of, is_open_record, AreMarks, HasNoTask};
+ghost use Rattle.client_node.specs.Marking.{no_marks, marks_of, is_marked, handles_row};
+ghost use Rattle.client_node.specs.Marking.{is_open_record, AreMarks, HasNoTask};
 ghost use Rattle.client_node.specs.Node.{IsClient, IsNode};
 ghost use Rattle.client_node.specs.Phases.{KeepsPhases};
 ghost use Rattle.client_node.specs.Readied.{IsIdle, IsIdleAt};
@@ -131,6 +133,9 @@ impl<D: Disk + Drop> ClientNode<D> {
         requires idle { HasNoTask D.state self.old }
         ensures held { (s : Client) → IsClient D.state self.old s
             → IfOk result (λ marks. marks ≡ marks_of (table_at (seen s.disk) table)) }
+        ensures synced { (s : Client) (c : ℕ) (shape : Shape) → IsClient D.state self.old s
+            → closed_in (table_at (seen s.disk) table) ≡ false → IfOk result (λ marks.
+            is_marked marks ≡ handles_row (sync_step c shape s.disk s.agenda table).answer) }
         ensures reads { (s : Client) → IsClient D.state self.old s
             → OnlyReads D.state D.images s self.old self.new result }
         ensures node { IsNode D.state self.new }

@@ -1,17 +1,18 @@
-use Rattle.std.proofs.Common.{◌≡◌, Result, Ok, Err, sym, subst, ap}
+use Rattle.std.proofs.Common.{◌≡◌, Result, Ok, Err, sym, subst, ap, ◌∙◌}
 use Rattle.std.specs.Prelude.{IfOk, IfErr}
 use Rattle.std.proofs.lemmas.Result.{err_from_is_err_and}
 use Rattle.disk_trait.specs.Fuse.{behind, inner_of}
 use Rattle.step_tables.specs.ClientMoves.{table_at, seen}
 use Rattle.client_node.specs.declared.calls.marking.Marked.{Marked}
+use Rattle.client_node.specs.declared.calls.marking.ToSync.{ToSync}
 use Rattle.client_node.specs.declared.fault.CallFault.{CallFault}
 use Rattle.client_node.specs.declared.node.ClientNode.{ClientNode}
 use Rattle.client_node.specs.Answers.{IsFault}
 use Rattle.client_node.specs.HeldRows.{OnlyReads}
 use Rattle.client_node.specs.Looks.{Looks}
-use Rattle.client_node.specs.Marking.{marks_of}
+use Rattle.client_node.specs.Marking.{marks_of, is_marked}
 use Rattle.client_node.specs.Syncing.{AreStale}
-use Rattle.client_node.proofs.Marked.{no_writes, idle_now, faulty, read}
+use Rattle.client_node.proofs.Marked.{no_writes, idle_now, sync_handles, faulty, read}
 use Rattle.client_node.proofs.NamedChunks.{reads_node}
 use Rattle.client_node.proofs.Rooms.{devices_up, node_ready}
 use Rattle.client_node.proofs.node.ClientNode.to_sync.Goals as goal
@@ -56,6 +57,14 @@ returns-clause-held g c s t =
     let none = no_writes g.D.Disk.state g.D.Disk.images (λ f image left. g.met.D.Disk.only_now (inner_of f) image left) old n.0.disk n.0.agenda n.1 n.2 in
     subst (λ (r : Result Marked CallFault). IfOk r (λ found. found.marks ≡ marks_of (table_at (seen s.disk) c.args.table))) (sym c.in_ok-marked.ensures.same)
     (c.mark-found.ensures.marks old.number s.disk (idle_now g.D.Disk.state g.D.Disk.images (λ f image left. g.met.D.Disk.only_now (inner_of f) image left) old c.requires.up none s.disk s.agenda t))
+
+pub returns-clause-synced : goal.returns-clause-synced
+returns-clause-synced g c s client shape t open =
+    let n = c.requires.idle in
+    let old = c.args.self.now in
+    let none = no_writes g.D.Disk.state g.D.Disk.images (λ f image left. g.met.D.Disk.only_now (inner_of f) image left) old n.0.disk n.0.agenda n.1 n.2 in
+    ap (λ (m : ToSync). is_marked m) (returns-clause-held g c s t)
+    ∙ sync_handles g.D.Disk.state g.D.Disk.images (λ f image left. g.met.D.Disk.only_now (inner_of f) image left) old c.requires.up none client shape c.args.table s.disk s.agenda t open
 
 pub returns-clause-reads : goal.returns-clause-reads
 returns-clause-reads g c s t =

@@ -65,8 +65,8 @@ not_closed true = refl
 not_closed false = refl
 
 if_open : (closed : Bool) (m : ToSync) → not closed ≡ true → (if closed then no_marks else m) ≡ m
-if_open true m open = absurd cc
-if_open false m open = refl
+if_open true m free = absurd cc
+if_open false m free = refl
 
 if_shut : (closed : Bool) (m : ToSync) → not closed ≡ false → (if closed then no_marks else m) ≡ no_marks
 if_shut true m shut = refl
@@ -102,8 +102,8 @@ module _ (c : ℕ) (shape : Shape) (disk : ClientDisk) (table : ℕ) where
   rows_handled size rows (Some x) = or_true (has_to_resend rows) ∙ sym (one_more (length (resent c table rows)))
 
   handled : (o : Option TableDisk) → closed_in o ≡ false → is_marked (marks_of o) ≡ handles_row (sync_in c shape disk [] table o).answer
-  handled None open = refl
-  handled (Some opened) open = ap (λ (b : Bool). is_marked (if b then no_marks else row_marks opened.rows)) open ∙ rows_handled opened.schema.chunk opened.rows (first_to_send opened.rows)
+  handled None free = refl
+  handled (Some opened) free = ap (λ (b : Bool). is_marked (if b then no_marks else row_marks opened.rows)) free ∙ rows_handled opened.schema.chunk opened.rows (first_to_send opened.rows)
 
 -- ---- of a table
 
@@ -156,10 +156,10 @@ module _ {D : Type 0} (state : D → DiskState) (client : Journal D) (c table : 
 
   -- of one that is open, by its noted rows
   pub marks_open : (o : Option TableRecord) → record_at (devs state client) table ≡ o → is_open_record o ≡ true → (m : ToSync) → AreMarks (devs state client) table waiting m → m ≡ marks_of (table_at (seen disk) table)
-  marks_open None is open m a = absurd cc
-  marks_open (Some found) is open m a =
+  marks_open None is free m a = absurd cc
+  marks_open (Some found) is free m a =
       rows_are found is m a
-      ∙ (sym (if_open (t found is).closed (row_marks (t found is).rows) (sym (open_is found is) ∙ open)) ∙ sym (ap marks_of (marks_are found is)))
+      ∙ (sym (if_open (t found is).closed (row_marks (t found is).rows) (sym (open_is found is) ∙ free)) ∙ sym (ap marks_of (marks_are found is)))
 
   -- and of another none
   pub marks_shut : (o : Option TableRecord) → record_at (devs state client) table ≡ o → is_open_record o ≡ false → no_marks ≡ marks_of (table_at (seen disk) table)
@@ -169,8 +169,8 @@ module _ {D : Type 0} (state : D → DiskState) (client : Journal D) (c table : 
 
 -- an open table has a small number
 pub open_small : (d : ClientDevs) (table : ℕ) → (c : ℕ) × IsIdle d c → (o : Option TableRecord) → record_at d table ≡ o → is_open_record o ≡ true → table + 1 < 2 ^ 32
-open_small d table idle None is open = absurd cc
-open_small d table idle (Some found) is open = table_small d idle.0 table idle.1 found is
+open_small d table idle None is free = absurd cc
+open_small d table idle (Some found) is free = table_small d idle.0 table idle.1 found is
 
 -- ---- of a node
 
@@ -198,9 +198,9 @@ module _ {D : Type 0} (state : D → DiskState) (images : D → ℕ → List ℕ
 
     pub sync_handles : (c : ℕ) (shape : Shape) (table : ℕ) (disk : ClientDisk) (agenda : Option (List ClientTask)) → IsClient state old (at disk agenda) → closed_in (table_at (seen disk) table) ≡ false
         → is_marked (marks_of (table_at (seen disk) table)) ≡ handles_row (sync_step c shape disk agenda table).answer
-    sync_handles c shape table disk None t open = let no = t.at.0 in absurd cc
-    sync_handles c shape table disk (Some []) t open = handled c shape disk table (table_at (seen disk) table) open
-    sync_handles c shape table disk (Some (task ∷ more)) t open = absurd (let no = (tasks_of_writes old.number (devs st old.devs) (writes_of old.devs) disk (task ∷ more) t.at.1.follows).none none in cc)
+    sync_handles c shape table disk None t free = let no = t.at.0 in absurd cc
+    sync_handles c shape table disk (Some []) t free = handled c shape disk table (table_at (seen disk) table) free
+    sync_handles c shape table disk (Some (task ∷ more)) t free = absurd (let no = (tasks_of_writes old.number (devs st old.devs) (writes_of old.devs) disk (task ∷ more) t.at.1.follows).none none in cc)
 
     module _ (client : Journal (FuseDisk D)) where
       abbrev mid : ClientNode D
@@ -220,12 +220,12 @@ module _ {D : Type 0} (state : D → DiskState) (images : D → ℕ → List ℕ
         abbrev fewer : ClientNode D
         fewer = record mid { waiting = less }
 
-        same : devs st client ≡ devs st old.devs
-        same = k.serves.same (λ no. cc)
+        same_devs : devs st client ≡ devs st old.devs
+        same_devs = k.serves.same (λ no. cc)
 
         is_less : IsLess (devs st client) table old.waiting less
         is_less =
-            stale_less (devs st client) table old.waiting less x.stale (subst (λ (d : ClientDevs). AreStale d table x.stale) (sym same) stale) (subst (λ (n : ClientNode D). TakesOff table x.stale.outs.items n.waiting.outs less.outs) is o)
+            stale_less (devs st client) table old.waiting less x.stale (subst (λ (d : ClientDevs). AreStale d table x.stale) (sym same_devs) stale) (subst (λ (n : ClientNode D). TakesOff table x.stale.outs.items n.waiting.outs less.outs) is o)
             (subst (λ (n : ClientNode D). TakesOff table x.stale.ready.items n.waiting.ready less.ready) is r) (q ∙ ap (λ (n : ClientNode D). n.waiting.conflicts) is)
 
         keeps : (s : Client) → IsClient state mid s → IsClient state fewer s

@@ -2,6 +2,7 @@ use Rattle.std.proofs.Common.{◌≡◌, Result, Ok, Err, sym, subst, ap, ◌∙
 use Rattle.std.specs.Prelude.{IfOk, IfErr}
 use Rattle.std.proofs.lemmas.Result.{err_from_is_err_and}
 use Rattle.disk_trait.specs.Fuse.{behind, inner_of}
+use Rattle.client_journal.specs.Standing.{devs}
 use Rattle.step_tables.specs.ClientMoves.{table_at, seen}
 use Rattle.client_node.specs.declared.calls.marking.Marked.{Marked}
 use Rattle.client_node.specs.declared.calls.marking.ToSync.{ToSync}
@@ -59,12 +60,12 @@ returns-clause-held g c s t =
     (c.mark-found.ensures.marks old.number s.disk (idle_now g.D.Disk.state g.D.Disk.images (λ f image left. g.met.D.Disk.only_now (inner_of f) image left) old c.requires.up none s.disk s.agenda t))
 
 pub returns-clause-synced : goal.returns-clause-synced
-returns-clause-synced g c s client shape t open =
+returns-clause-synced g c s client shape t free =
     let n = c.requires.idle in
     let old = c.args.self.now in
     let none = no_writes g.D.Disk.state g.D.Disk.images (λ f image left. g.met.D.Disk.only_now (inner_of f) image left) old n.0.disk n.0.agenda n.1 n.2 in
     ap (λ (m : ToSync). is_marked m) (returns-clause-held g c s t)
-    ∙ sync_handles g.D.Disk.state g.D.Disk.images (λ f image left. g.met.D.Disk.only_now (inner_of f) image left) old c.requires.up none client shape c.args.table s.disk s.agenda t open
+    ∙ sync_handles g.D.Disk.state g.D.Disk.images (λ f image left. g.met.D.Disk.only_now (inner_of f) image left) old c.requires.up none client shape c.args.table s.disk s.agenda t free
 
 pub returns-clause-reads : goal.returns-clause-reads
 returns-clause-reads g c s t =
@@ -76,7 +77,7 @@ returns-clause-reads g c s t =
     let is = c.in_ok-marked.ensures.other (λ no. cc) in
     let none = no_writes g.D.Disk.state g.D.Disk.images (λ f image left. g.met.D.Disk.only_now (inner_of f) image left) old n.0.disk n.0.agenda n.1 n.2 in
     let k = subst (λ (r : Result Marked CallFault). Looks (λ f. behind g.D.Disk.state f) (λ f. g.D.Disk.images (inner_of f)) old.devs call.new.devs r) same call.ensures.looks in
-    let stale = subst (λ (r : Result Marked CallFault). IfOk r (λ found. AreStale _ c.args.table found.stale)) same call.ensures.stale in
+    let stale = subst (λ (r : Result Marked CallFault). IfOk r (λ found. AreStale (devs (λ f. behind g.D.Disk.state f) old.devs) c.args.table found.stale)) same call.ensures.stale in
     read g.D.Disk.state g.D.Disk.images (λ f image left. g.met.D.Disk.only_now (inner_of f) image left) old c.requires.up none call.new.devs x k c.args.table stale c.settle.new.self is c.forget.new.self c.forget.ensures.outs
     c.forget.ensures.ready c.forget.ensures.conflicts s.disk s.agenda t
 

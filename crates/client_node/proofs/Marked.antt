@@ -1,6 +1,6 @@
 -- What is found of a table by the rows that are noted is what a synchronization of it would do.
-use Rattle.std.proofs.Common.{◌≡◌, ℕ, ◌+◌, ◌<◌, Bool, true, false, not, List, [], ◌∷◌, Option, Some, None, Ok, Err, refl, sym, ◌∙◌, ap, subst, arith}
-use Rattle.std.specs.Prelude.{◌==◌, ◌^◌, ◌||◌, nat_lt, length, is_some, option_map, if◌then◌else◌, IsErrOf}
+use Rattle.std.proofs.Common.{◌≡◌, ℕ, ◌+◌, ◌<◌, Bool, true, false, not, List, [], ◌∷◌, Option, Some, None, Result, Ok, Err, refl, sym, ◌∙◌, ap, subst, arith}
+use Rattle.std.specs.Prelude.{◌==◌, ◌^◌, ◌||◌, nat_lt, length, is_some, option_map, if◌then◌else◌, IfOk, IfErr, IsErrOf}
 use Rattle.std.proofs.lemmas.Bool.Decides.{nat_tests}
 use Rattle.disk_trait.specs.Calls.{DiskState}
 use Rattle.disk_trait.specs.Image.{IsImage}
@@ -22,7 +22,6 @@ use Rattle.client_node.specs.declared.calls.marking.Marked.{Marked}
 use Rattle.client_node.specs.declared.fault.CallFault.{CallFault}
 use Rattle.client_node.specs.declared.fault.CallFault.TheVariants as call
 use Rattle.client_node.specs.declared.node.ClientNode.{ClientNode}
-use Rattle.client_node.specs.declared.waiting.Stale.{Stale}
 use Rattle.client_node.specs.declared.waiting.Waiting.{Waiting}
 use Rattle.client_node.specs.Answers.{record_at, held_at, IsFault}
 use Rattle.client_node.specs.Calls.{Fell}
@@ -71,6 +70,10 @@ if_open false m free = refl
 if_shut : (closed : Bool) (m : ToSync) → not closed ≡ false → (if closed then no_marks else m) ≡ no_marks
 if_shut true m shut = refl
 if_shut false m shut = absurd cc
+
+-- what was found is so
+pub ok_so : (P : Marked → Type 0) (x : Marked) (r : Result Marked CallFault) → Ok x ≡ r → IfOk r P → P x
+ok_so P x r same k = subst (λ (y : Result Marked CallFault). IfOk y P) (sym same) k
 
 -- ---- a table is marked where a synchronization of it handles a row
 
@@ -207,18 +210,26 @@ module _ {D : Type 0} (state : D → DiskState) (images : D → ℕ → List ℕ
       mid = record old { devs = client }
 
       -- a fault
-      pub faulty : (e : CallFault) → Looks {T = Marked} st im old.devs client (Err e) → IsFault e → (new : ClientNode D) → (IsErrOf {T = Marked} (Err e) call.Disk → Fell state images (record old { devs = client }) new)
+      pub faulty : (e : CallFault) (r : Result Marked CallFault) → Err e ≡ r → Looks st im old.devs client r → IfErr r IsFault → (new : ClientNode D) → (IsErrOf {T = Marked} (Err e) call.Disk → Fell state images (record old { devs = client }) new)
           → ((IsErrOf {T = Marked} (Err e) call.Disk → ⊥) → new ≡ record old { devs = client }) → (disk : ClientDisk) (agenda : Option (List ClientTask)) → IsClient state old (at disk agenda)
           → OnlyReads {T = ToSync} state images (at disk agenda) old new (Err e)
-      faulty e k fault new fell other disk agenda t =
-          only_reads state images only_now old disk agenda t is_up (Err e) client (looks_err st im old.devs client (devices_up state old disk agenda t) (node_ready state old disk agenda t is_up) e k) fault new
+      faulty e r same k fault new fell other disk agenda t =
+          only_reads state images only_now old disk agenda t is_up (Err e) client
+          (looks_err st im old.devs client (devices_up state old disk agenda t) (node_ready state old disk agenda t is_up) e (subst (λ (y : Result Marked CallFault). Looks st im old.devs client y) (sym same) k))
+          (subst (λ (y : Result Marked CallFault). IfErr y IsFault) (sym same) fault) new
           (λ is. fell (as_err e call.Disk (of_err e call.Disk is))) (λ no. other (λ is. no (as_err e call.Disk (of_err e call.Disk is))))
 
       -- what was found, and the rows that were passed over are taken off
-      module _ (x : Marked) (k : Looks {T = Marked} st im old.devs client (Ok x)) (table : ℕ) (stale : AreStale (devs st old.devs) table x.stale) (settled : ClientNode D) (is : settled ≡ record old { devs = client }) (less : Waiting) (o : TakesOff table x.stale.outs.items settled.waiting.outs less.outs)
-          (r : TakesOff table x.stale.ready.items settled.waiting.ready less.ready) (q : less.conflicts ≡ settled.waiting.conflicts) where
+      module _ (x : Marked) (r : Result Marked CallFault) (found : Ok x ≡ r) (looks : Looks st im old.devs client r) (table : ℕ) (are_stale : IfOk r (λ y. AreStale (devs st old.devs) table y.stale)) (settled : ClientNode D) (is : settled ≡ record old { devs = client }) (less : Waiting) (o : TakesOff table x.stale.outs.items settled.waiting.outs less.outs)
+          (b : TakesOff table x.stale.ready.items settled.waiting.ready less.ready) (q : less.conflicts ≡ settled.waiting.conflicts) where
         abbrev fewer : ClientNode D
         fewer = record mid { waiting = less }
+
+        k : Looks {T = Marked} st im old.devs client (Ok x)
+        k = subst (λ (y : Result Marked CallFault). Looks st im old.devs client y) (sym found) looks
+
+        stale : AreStale (devs st old.devs) table x.stale
+        stale = ok_so (λ (y : Marked). AreStale (devs st old.devs) table y.stale) x r found are_stale
 
         same_devs : devs st client ≡ devs st old.devs
         same_devs = k.serves.same (λ no. cc)
@@ -226,7 +237,7 @@ module _ {D : Type 0} (state : D → DiskState) (images : D → ℕ → List ℕ
         is_less : IsLess (devs st client) table old.waiting less
         is_less =
             stale_less (devs st client) table old.waiting less x.stale (subst (λ (d : ClientDevs). AreStale d table x.stale) (sym same_devs) stale) (subst (λ (n : ClientNode D). TakesOff table x.stale.outs.items n.waiting.outs less.outs) is o)
-            (subst (λ (n : ClientNode D). TakesOff table x.stale.ready.items n.waiting.ready less.ready) is r) (q ∙ ap (λ (n : ClientNode D). n.waiting.conflicts) is)
+            (subst (λ (n : ClientNode D). TakesOff table x.stale.ready.items n.waiting.ready less.ready) is b) (q ∙ ap (λ (n : ClientNode D). n.waiting.conflicts) is)
 
         keeps : (s : Client) → IsClient state mid s → IsClient state fewer s
         keeps = client_less state images only_now mid is_up less (k.agenda ∙ none) table is_less

@@ -1,6 +1,6 @@
 -- A client that is asked whether it has a table opened, or what a synchronization of it would do: what was read, and how
 -- the client falls.
-use Rattle.std.proofs.Common.{◌≡◌, ⊎_elim, ℕ, ◌<◌, ◌≤◌, Bool, true, false, List, [], ◌∷◌, ◌++◌, map, Option, Some, None, Ok, refl, sym, ◌∙◌, ap, subst, arith, append-nil}
+use Rattle.std.proofs.Common.{◌≡◌, ⊎_elim, ℕ, ◌<◌, ◌≤◌, Bool, true, false, List, [], ◌∷◌, ◌++◌, Option, Some, None, refl, sym, ◌∙◌, ap, subst, arith, append-nil}
 use Rattle.std.specs.Prelude.{if◌then◌else◌}
 use Rattle.std.specs.List.{flat_map}
 use Rattle.disk_trait.specs.Calls.{DiskState}
@@ -12,12 +12,11 @@ use Rattle.table_model.specs.declared.line.TextLine.{TextLine}
 use Rattle.step_tables.specs.ClientMoves.{Client, ClientDisk, ClientTask, ClientMove, Alter, Closes, Crash, Sync, no_shape}
 use Rattle.step_tables.specs.Facts as facts
 use Rattle.step_tables.specs.Facts.{Line}
-use Rattle.step_tables.specs.Lines.{line_of}
 use Rattle.step_tables.specs.Messages as messages
 use Rattle.client_node.specs.declared.calls.marking.ToSync.{ToSync}
 use Rattle.world_tables.specs.Faults.{is_fault_answer}
 use Rattle.world_tables.specs.Passed.{first_part}
-use Rattle.world_tables.specs.World.{World as AWorld, Outbox, WorldStep, Moved, Lucks, client_at, is_client_down, is_down, move_there, client_falls, answering, failing, refused, call_there, call, step}
+use Rattle.world_tables.specs.World.{World as AWorld, Outbox, WorldStep, Lucks, client_at, is_client_down, is_down, move_there, client_falls, answering, failing, refused, call_there, call, step}
 use Rattle.journal_host.specs.Calls.{has_table, marks_at}
 use Rattle.fair_laws.specs.Reached as fair
 use Rattle.part_network.specs.Packets.{most_bytes, bytes_of}

@@ -1,11 +1,8 @@
-use Rattle.std.proofs.Common.{ℕ, Ok, Err, sym, ◌∙◌, ap, subst}
+use Rattle.std.proofs.Common.{Ok, sym, ◌∙◌, subst}
 use Rattle.std.proofs.lemmas.Result.{err_from_is_err_and, IfOk-weaker}
 use Rattle.client_journal.specs.Devs.{ClientDevs}
 use Rattle.client_journal.specs.Standing.{devs}
-use Rattle.step_tables.specs.ClientMoves.{ClientDisk}
-use Rattle.client_node.specs.Answers.{record_at}
 use Rattle.client_node.specs.Marking.{AreMarks}
-use Rattle.client_node.specs.Readied.{IsIdle}
 use Rattle.client_node.specs.Requesting.{NoneWaits, NoneSends}
 use Rattle.client_node.specs.Syncing.{AreStale}
 use Rattle.client_node.proofs.Marked.{marks_open, marks_shut, open_small}
@@ -38,7 +35,7 @@ returns-then-is_open_record-clause-marks g c client disk idle =
     let same = c.in_ok-found.ensures.looks.serves.same (λ is. cc) in
     IfOk-weaker c.mark_opened.result _ _
     (λ found are. marks_open s c.args.devs.now client c.args.table c.args.waiting.now disk idle c.in_ok-found.found c.in_ok-found.ensures.found (sym c.is_open_record.ensures ∙ c.if-is_open_record.true) found.marks
-        (subst (λ (d : ClientDevs). AreMarks d c.args.table c.args.waiting.now found.marks) same are)) c.mark_opened.ensures.marks
+    (subst (λ (d : ClientDevs). AreMarks d c.args.table c.args.waiting.now found.marks) same are)) c.mark_opened.ensures.marks
 
 pub returns-then-is_open_record-clause-stale : goal.returns-then-is_open_record-clause-stale
 returns-then-is_open_record-clause-stale g c =
